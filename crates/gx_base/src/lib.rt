@@ -1,0 +1,2 @@
+//! Bytes in and out, with a count of faults.
+#![tactic(auto)]

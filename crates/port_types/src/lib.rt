@@ -1,0 +1,2 @@
+//! Shapes, tokens, texts and port texts.
+#![tactic(auto)]
