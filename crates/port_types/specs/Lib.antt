@@ -1,0 +1,3 @@
+pub mod Shape
+pub mod Token
+pub mod PortText

@@ -1,2 +1,25 @@
-//! Shapes, tokens, texts and port texts.
+//! What a port carries, and how it is written: shapes, tokens, names, and the texts of ports.
+//!
+//! - `Text`: bytes that are UTF-8.
+//! - `Shape`: 1 to 128 widths of fields, each from 0 to 64 bits.
+//! - `Token`: a list of numbers, one for each field of the shape that it fits.
+//! - `Items`: a list in a public type, which contracts see as the list of what it holds.
+//! - `push_port_name`, `push_port`: port texts, as `out1` and `in2:4.32`.
+//! - `NoMemory`: the answer of a call for which there was no memory.
 #![tactic(auto)]
+
+mod items;
+mod memory;
+mod port_text;
+mod shape;
+mod side;
+mod text;
+mod token;
+
+pub use items::Items;
+pub use memory::NoMemory;
+pub use port_text::{push_port, push_port_name};
+pub use shape::{Shape, is_shape, same_shape};
+pub use side::Side;
+pub use text::Text;
+pub use token::{Token, fits};

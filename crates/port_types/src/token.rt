@@ -1,0 +1,62 @@
+ghost use Rattle.std.specs.Prelude.{◌≡◌, ◌^◌, ◌<◌, ◌≤◌, ◌↔◌, IsTrue};
+ghost use Rattle.port_types.specs.Shape.{IsShape};
+ghost use Rattle.port_types.specs.Token.{Fits};
+
+use crate::shape::Shape;
+use std::marker::Model;
+
+/// A token: a list of numbers. Contracts see the list.
+#[derive(Debug, Drop)]
+pub struct Token {
+    fields: Vec<u64>,
+}
+
+impl Model for Token {
+    ghost use Rattle.std.specs.Prelude.{List, ℕ};
+
+    ghost Value = { List ℕ };
+
+    ghost view = { λ t. t.fields.items };
+}
+
+impl Token {
+    /// The token with these fields. Takes no memory.
+    pub fn new(fields: Vec<u64>) -> Token
+        ensures { result ≡ fields.items }
+    {
+        Token { fields }
+    }
+
+    /// The fields in order.
+    pub fn fields(&self) -> &[u64]
+        ensures { result.now ≡ self.now }
+    {
+        self.fields.as_slice()
+    }
+}
+
+/// Whether the token has as many numbers as the shape has widths, each below 2 to the power of its width.
+pub fn fits(shape: &Shape, token: &Token) -> bool
+    ensures { IsTrue result ↔ Fits shape.now token.now }
+{
+    fields_fit(shape.widths(), token.fields())
+}
+
+fn fields_fit(widths: &[u8], numbers: &[u64]) -> bool
+    requires { IsShape widths.now }
+    ensures { IsTrue result ↔ Fits widths.now numbers.now }
+{
+    widths.len() == numbers.len()
+        && widths
+            .iter()
+            .zip(numbers)
+            .all(|(width, number)| field_fits(*width, *number))
+}
+
+/// Whether the number is below 2 to the power of the width.
+fn field_fits(width: u8, number: u64) -> bool
+    requires { width ≤ 64 }
+    ensures { IsTrue result ↔ (number < 2 ^ width) }
+{
+    width == 64 || number >> width == 0
+}
