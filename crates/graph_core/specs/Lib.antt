@@ -1,0 +1,7 @@
+pub mod Name
+pub mod Kind
+pub mod Node
+pub mod NamedGraph
+pub mod GraphValue
+pub mod Wiring
+pub mod Inside

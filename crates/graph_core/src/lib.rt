@@ -1,0 +1,18 @@
+//! Graphs of components: nodes with kinds and names, wires from outputs to inputs.
+//!
+//! - `Kind`: the components, with `kind_ok`, `inputs`, `outputs` and `port_shape`, which read the table of their ports.
+//! - `Node`: a name, a kind, and the attributes that are kept as texts.
+//! - `Graph`: nodes by index and wires between ports. Contracts see it by its slots, and by names through
+//!   `by_names` in `specs/`: one map from names to nodes, one from input ports to the outputs that feed them.
+//! - `check_typed`: whether each port stands on a wire.
+#![tactic(auto)]
+
+mod graph;
+mod kind;
+mod node;
+mod place;
+
+pub use graph::{AddNode, AddWire, Graph, PortOpen, check_typed};
+pub use kind::{Kind, inputs, kind_ok, outputs, port_shape};
+pub use node::Node;
+pub use place::{NodeId, PortAt};
