@@ -1,21 +1,17 @@
 -- A graph by slots: what its calls see, and the graph by names that it stands for.
-use Rattle.std.specs.Prelude.{◌≡◌, ◌≢◌, ◌⊎◌, ℕ, ◌<◌, Bool, false, not, ◌||◌, ◌==◌, refl, List, [], ◌∷◌, map, Option, Some, None, IsSome, slice_get, slice_set, is_some}
-use Rattle.std.specs.Ordering.{nat_cmp, ordering_then}
-use Rattle.std.specs.declared.cmp.Ordering.{Ordering}
+use Rattle.std.specs.Prelude.{◌≡◌, ℕ, Bool, false, not, ◌||◌, ◌&&◌, ◌==◌, List, [], ◌∷◌, ◌++◌, length, map, Option, Some, None, slice_get, slice_set}
 use Rattle.std.specs.List.{list_any}
 use Rattle.std.specs.FinMap as map
 use Rattle.port_types.specs.declared.side.Side.{Side}
 use Rattle.port_types.specs.declared.side.Side.TheVariants.{Ins, Outs}
 use Rattle.graph_core.specs.declared.node.Node.{Node}
+use Rattle.graph_core.specs.declared.place.NodeId.{NodeId}
 use Rattle.graph_core.specs.declared.place.PortAt.{PortAt}
+use Rattle.graph_core.specs.Place.{index_of, id_of, place_cmp}
 use Rattle.graph_core.specs.Name.{Name, Port, port_get}
 use Rattle.graph_core.specs.Kind.{Shape, ins, outs, ports}
 use Rattle.graph_core.specs.Node.{NodeOk, Body, body_of}
 use Rattle.graph_core.specs.NamedGraph.{NamedGraph}
-
--- by index, and then by number
-abbrev pub place_cmp : PortAt → PortAt → Ordering
-place_cmp p q = ordering_then (nat_cmp p.node q.node) (nat_cmp p.port q.port)
 
 -- nodes by index, and for each input that is on a wire the output that feeds it
 pub record GraphValue : Type 0 where
@@ -26,9 +22,9 @@ abbrev pub flat : {A : Type 0} → Option (Option A) → Option A
 flat None = None
 flat (Some found) = found
 
--- the live node of an index
-abbrev pub node_at : GraphValue → ℕ → Option Node
-node_at g index = flat (slice_get g.slots index)
+-- the live node of an id
+abbrev pub node_at : GraphValue → NodeId → Option Node
+node_at g id = flat (slice_get g.slots (index_of id))
 
 abbrev pub shape_of : Option Node → Side → ℕ → Option Shape
 shape_of None side port = None
@@ -69,31 +65,43 @@ by_names g =
 
 -- What the calls say
 
--- the live node of this index has this name
-abbrev pub HasName : GraphValue → ℕ → Name → Type 0
-HasName g index name = (node : Node) × (node_at g index ≡ Some node) × (node.name ≡ name)
+-- the live node of this id has this name
+abbrev pub HasName : GraphValue → NodeId → Name → Type 0
+HasName g id name = (node : Node) × (node_at g id ≡ Some node) × (node.name ≡ name)
 
 -- the output stands on a wire
 abbrev pub feeds : GraphValue → PortAt → Bool
-feeds g source = list_any (λ wire. (wire.1.node == source.node) && (wire.1.port == source.port)) (map.entries g.feeders)
+feeds g source = list_any (λ wire. (index_of wire.1.node == index_of source.node) && (wire.1.port == source.port)) (map.entries g.feeders)
 
--- the port is one of the node of this index
-abbrev pub is_at : ℕ → Option PortAt → Bool
-is_at index None = false
-is_at index (Some p) = p.node == index
+-- the port is one of the node of this id
+abbrev pub is_at : NodeId → Option PortAt → Bool
+is_at id None = false
+is_at id (Some p) = index_of p.node == index_of id
 
--- without the node of this index and the wires at its ports
-abbrev pub without_slot : GraphValue → ℕ → GraphValue
-without_slot g index =
+-- the id of the next node that is added
+abbrev pub next_id : GraphValue → NodeId
+next_id g = id_of (length g.slots)
+
+-- with a node behind all others
+abbrev pub with_slot : GraphValue → Node → GraphValue
+with_slot g node = record g { slots = g.slots ++ Some node ∷ [] }
+
+-- with a wire from the output source to the input target
+abbrev pub with_feeder : GraphValue → PortAt → PortAt → GraphValue
+with_feeder g source target = record g { feeders = map.insert g.feeders target source }
+
+-- without the node of this id and the wires at its ports
+abbrev pub without_slot : GraphValue → NodeId → GraphValue
+without_slot g id =
     record {
-      slots = slice_set g.slots index None;
-      feeders = map.retain_keys g.feeders (λ target. not (is_at index (Some target) || is_at index (map.get g.feeders target)));
+      slots = slice_set g.slots (index_of id) None;
+      feeders = map.retain_keys g.feeders (λ target. not (is_at id (Some target) || is_at id (map.get g.feeders target)));
     }
 
 -- each node may stand in a graph, no two have one name; each wire joins an output to an input of its shape, and no output is on two
 pub record IsGraph (g : GraphValue) : Type 0 where
-  pub nodes : (index : ℕ) (node : Node) → node_at g index ≡ Some node → NodeOk node
-  pub names : (i j : ℕ) (name : Name) → HasName g i name → HasName g j name → i ≡ j
+  pub nodes : (id : NodeId) (node : Node) → node_at g id ≡ Some node → NodeOk node
+  pub names : (i j : NodeId) (name : Name) → HasName g i name → HasName g j name → i ≡ j
   pub wires : (target source : PortAt) → map.get g.feeders target ≡ Some source →
-    (shape : Shape) × (shape_at g Outs source ≡ Some shape) × (shape_at g Ins target ≡ Some shape)
+      (shape : Shape) × (shape_at g Outs source ≡ Some shape) × (shape_at g Ins target ≡ Some shape)
   pub once : (p q source : PortAt) → map.get g.feeders p ≡ Some source → map.get g.feeders q ≡ Some source → p ≡ q

@@ -1,20 +1,21 @@
 -- How a graph keeps its nodes and wires: a list of each.
-use Rattle.std.specs.Prelude.{◌≡◌, ℕ, refl, List, [], ◌∷◌, map, Option, None}
+use Rattle.std.specs.Prelude.{◌≡◌, ℕ, refl, List, [], ◌∷◌, map, Option, Some, None, slice_get}
 use Rattle.std.specs.Coded.{Coded, code_by, coded×, coded_list, coded_option}
 use Rattle.std.specs.FinMap as map
 use Rattle.graph_core.specs.declared.node.Node.{Node}
 use Rattle.graph_core.specs.declared.place.PortAt.{PortAt}
-use Rattle.graph_core.specs.declared.graph.Wire.{Wire}
+use Rattle.graph_core.specs.declared.wires.Wire.{Wire}
 use Rattle.graph_core.specs.contracts.node.Node as node
 use Rattle.graph_core.specs.contracts.place.PortAt as place
-use Rattle.graph_core.specs.GraphValue.{GraphValue, place_cmp, IsGraph}
+use Rattle.graph_core.specs.Place.{place_cmp}
+use Rattle.graph_core.specs.GraphValue.{GraphValue, flat}
 
 -- a graph's value is stored as the pair of its fields
 abbrev pub graph_code : Coded GraphValue
 graph_code =
     code_by (List (Option Node) × map.FinMap place_cmp PortAt)
-      (coded× (coded_list (coded_option node.the_row.coded)) (map.code place.the_row.coded place.the_row.coded))
-      (λ g. (g.slots, g.feeders)) (λ p. record { slots = p.0; feeders = p.1 }) (λ _. refl)
+    (coded× (coded_list (coded_option node.the_row.coded)) (map.code place.the_row.coded place.the_row.coded))
+    (λ g. (g.slots, g.feeders)) (λ p. record { slots = p.0; feeders = p.1 }) (λ _. refl)
 
 -- by its input, the output of each wire
 abbrev pub feeder_list : List Wire → List (PortAt × PortAt)
@@ -27,3 +28,7 @@ value_of slots wires = record { slots = slots; feeders = map.from_entries (feede
 abbrev pub AreApart : List (PortAt × PortAt) → Type 0
 AreApart [] = Unit {0}
 AreApart (entry ∷ entries) = (map.find place_cmp entry.0 entries ≡ None) × AreApart entries
+
+-- a live node with this name stands at this index
+abbrev pub IsNamedAt : List (Option Node) → ℕ → List ℕ → Type 0
+IsNamedAt slots index name = (node : Node) × (flat (slice_get slots index) ≡ Some node) × (node.name ≡ name)

@@ -48,9 +48,9 @@ pub record IsTyped (g : NamedGraph) : Type 0 where
   pub kinds : (name : Name) (body : Body) → map.get g.nodes name ≡ Some body → KindOk body.kind
   pub wires : (target source : Port) → map.get g.feeders target ≡ Some source → IsWire g source target
   pub inputs : (p : Port) (body : Body) (shape : Shape) → map.get g.nodes p.node ≡ Some body →
-    port_get (ins body.kind) p.port ≡ Some shape → (source : Port) × (map.get g.feeders p ≡ Some source)
+      port_get (ins body.kind) p.port ≡ Some shape → (source : Port) × (map.get g.feeders p ≡ Some source)
   pub outputs : (p : Port) (body : Body) (shape : Shape) → map.get g.nodes p.node ≡ Some body →
-    port_get (outs body.kind) p.port ≡ Some shape → (target : Port) × (map.get g.feeders target ≡ Some p)
+      port_get (outs body.kind) p.port ≡ Some shape → (target : Port) × (map.get g.feeders target ≡ Some p)
   pub once : (p q source : Port) → map.get g.feeders p ≡ Some source → map.get g.feeders q ≡ Some source → p ≡ q
 
 -- each node has a name that is allowed

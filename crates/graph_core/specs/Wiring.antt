@@ -5,8 +5,9 @@ use Rattle.port_types.specs.declared.side.Side.{Side}
 use Rattle.port_types.specs.declared.side.Side.TheVariants.{Ins, Outs}
 use Rattle.graph_core.specs.declared.place.PortAt.{PortAt}
 use Rattle.graph_core.specs.declared.graph.AddWire.{AddWire}
-use Rattle.graph_core.specs.declared.graph.AddWire.TheVariants.{UnknownPort, PortTaken, ShapeDiffers}
+use Rattle.graph_core.specs.declared.graph.AddWire.TheVariants.{UnknownPort, PortTaken, ShapeDiffers, NoMemory}
 use Rattle.graph_core.specs.declared.graph.PortOpen.{PortOpen}
+use Rattle.graph_core.specs.Place.{index_of}
 use Rattle.graph_core.specs.Kind.{Shape}
 use Rattle.graph_core.specs.GraphValue.{GraphValue, shape_at, feeds}
 
@@ -22,6 +23,10 @@ fault_between (Some a) (Some b) taken = if taken then Some PortTaken else (if by
 -- the first that keeps a wire from output source to input target out: a port that is not there, a port on a wire, two shapes
 abbrev pub wire_fault : GraphValue → PortAt → PortAt → Option AddWire
 wire_fault g source target = fault_between (shape_at g Outs source) (shape_at g Ins target) (is_taken g source target)
+
+-- the answer is this fault, or there was no memory where there is none
+abbrev pub IsWireFault : Option AddWire → AddWire → Type 0
+IsWireFault fault answer = (fault ≡ Some answer) ⊎ ((fault ≡ None) × (answer ≡ NoMemory))
 
 -- the port stands on no wire
 abbrev pub IsFree : GraphValue → Side → PortAt → Type 0
@@ -42,7 +47,7 @@ ComesBefore Outs i Outs j = i < j
 
 -- in the order of ids, inputs before outputs, by number
 abbrev pub IsBefore : PortOpen → PortOpen → Type 0
-IsBefore p q = (p.node < q.node) ⊎ ((p.node ≡ q.node) × ComesBefore p.side p.port q.side q.port)
+IsBefore p q = (index_of p.node < index_of q.node) ⊎ ((p.node ≡ q.node) × ComesBefore p.side p.port q.side q.port)
 
 -- an open port, and the first of all
 pub record IsFirstOpen (g : GraphValue) (open_port : PortOpen) : Type 0 where

@@ -1,14 +1,18 @@
-ghost use Rattle.std.specs.Prelude.{◌≡◌, ◌≢◌, ◌↔◌, ◌⊎◌, ◌++◌, ℕ, [], ◌∷◌, length, map, Some, None, Ok, Err, IsTrue, IsSome, IsNone, IsOk, IfSome, IfNone, IfOk, IfErr, OnOk, OnErr, OnSome, is_some, MatchResult};
+ghost use Rattle.std.specs.Prelude.{◌≡◌, ◌≢◌, ◌↔◌, ◌⊎◌, [], ◌∷◌, length, map, Some, None, Ok, Err, IsTrue, IsSome, IsNone, IsOk, IfSome, IfNone, IfOk, IfErr, OnOk, OnErr, OnSome, is_some, MatchResult};
 ghost use Rattle.std.specs.Option.{option_copied, option_map};
 ghost use Rattle.std.specs.FinMap as map_of;
 ghost use Rattle.graph_core.specs.Name.{IsName};
 ghost use Rattle.graph_core.specs.Node.{NodeOk, body_of};
 ghost use Rattle.graph_core.specs.NamedGraph.{IsTyped, no_graph, with_node, with_wire, without_node};
-ghost use Rattle.graph_core.specs.GraphValue.{by_names, node_at, named, port_named, HasName, without_slot};
+ghost use Rattle.graph_core.specs.GraphValue.{by_names, node_at, named, next_id, port_named, shape_at, HasName, with_slot, with_feeder, without_slot};
+ghost use Rattle.graph_core.specs.Wiring.{wire_fault, IsWireFault, IsFirstOpen};
 
+use crate::kind::{Kind, inputs, outputs};
 use crate::node::Node;
 use crate::place::{NodeId, PortAt};
-use port_types::{NoMemory, Side};
+use crate::slots::{index_of, node_in};
+use crate::wires::{Wire, source_in, target_in};
+use port_types::{NoMemory, Shape, Side, same_shape};
 use std::alloc::Global;
 use std::marker::Model;
 
@@ -40,13 +44,6 @@ pub struct PortOpen {
     pub port: u8,
 }
 
-/// A wire from an output to an input.
-#[derive(Clone, Copy, Debug, Drop)]
-struct Wire {
-    source: PortAt,
-    target: PortAt,
-}
-
 /// A graph: nodes with different names, and wires from outputs to inputs of equal shape. Each port stands on at most
 /// one wire. Contracts see the nodes by index and, by input, the outputs that feed them; `by_names` gives the graph by names.
 #[derive(Debug, Drop)]
@@ -72,6 +69,7 @@ impl Graph {
     /// The graph without nodes. It keeps the allocator and takes no memory.
     pub fn new(alloc: Global) -> Graph
         ensures slots { result.slots ≡ [] }
+        ensures feeders { result.feeders ≡ map_of.empty }
         ensures names { by_names result ≡ no_graph }
     {
         Graph {
@@ -80,20 +78,160 @@ impl Graph {
         }
     }
 
-    /// The live node of this id.
+    /// Adds a node behind all others, and answers its id. The node is given up on every error, which leaves the graph as it was:
+    /// `NameTaken` exactly where a live node has the name, and `NoMemory`.
+    pub fn add_node(&mut self, node: Node) -> Result<NodeId, AddNode>
+        requires { NodeOk node }
+        ensures id { IfOk result (λ id. id ≡ next_id self.old) }
+        ensures ok { OnOk result (self.new ≡ with_slot self.old node) }
+        ensures names { OnOk result (by_names self.new ≡ with_node (by_names self.old) node.name (body_of node)) }
+        ensures taken { (result ≡ Err AddNode.NameTaken) ↔ IsSome (map_of.get (by_names self.old).nodes node.name) }
+        ensures err { OnErr result (self.new ≡ self.old) }
+    {
+        if index_of(&self.nodes, node.name.bytes()).is_some() {
+            return Err(AddNode::NameTaken);
+        }
+        let id = NodeId::new(self.nodes.len());
+        match self.nodes.push(Some(node)) {
+            Ok(()) => Ok(id),
+            Err(_) => Err(AddNode::NoMemory),
+        }
+    }
+
+    /// Joins an output to an input. An error leaves the graph as it was. In this order: `UnknownPort` exactly where one of the ports is not there,
+    /// `PortTaken` exactly where one stands on a wire, `ShapeDiffers` exactly where their shapes differ; and `NoMemory`.
+    pub fn add_wire(&mut self, source: PortAt, target: PortAt) -> Result<(), AddWire>
+        ensures ok { OnOk result (self.new ≡ with_feeder self.old source target) }
+        ensures names { OnOk result (by_names self.new ≡ with_wire (by_names self.old) (port_named self.old source) (port_named self.old target)) }
+        ensures fault { MatchResult result (λ _. wire_fault self.old source target ≡ None) (IsWireFault (wire_fault self.old source target)) }
+        ensures err { OnErr result (self.new ≡ self.old) }
+    {
+        self.try_wire(source, target)?;
+        match self.wires.push(Wire { source, target }) {
+            Ok(()) => Ok(()),
+            Err(_) => Err(AddWire::NoMemory),
+        }
+    }
+
+    /// Whether the ports are there, on no wire, and of one shape.
+    fn try_wire(&self, source: PortAt, target: PortAt) -> Result<(), AddWire>
+        ensures { MatchResult result (λ _. wire_fault self.now source target ≡ None) (λ fault. wire_fault self.now source target ≡ Some fault) }
+    {
+        let leaving = self
+            .shape_at(Side::Outs, source)
+            .ok_or(AddWire::UnknownPort)?;
+        let entering = self
+            .shape_at(Side::Ins, target)
+            .ok_or(AddWire::UnknownPort)?;
+        if self.wire_into(target).is_some() || self.wire_from(source).is_some() {
+            return Err(AddWire::PortTaken);
+        }
+        if same_shape(leaving, entering) {
+            Ok(())
+        } else {
+            Err(AddWire::ShapeDiffers)
+        }
+    }
+
+    /// The shape of a port, or `None` where there is no such port.
+    fn shape_at(&self, side: Side, port: PortAt) -> Option<&Shape>
+        ensures { option_copied result ≡ shape_at self.now side port }
+    {
+        self.node(port.node)?.kind.shape_at(side, port.port)
+    }
+
+    /// Takes a node out, with the wires at its ports. The ids of the others stay. `None` exactly where no live node has the id;
+    /// the graph is then as it was.
+    pub fn remove_node(&mut self, id: NodeId) -> Option<Node>
+        ensures node { result ≡ node_at self.old id }
+        ensures gone { self.new ≡ without_slot self.old id }
+        ensures names { IfSome result (λ node. by_names self.new ≡ without_node (by_names self.old) node.name) }
+        ensures none { IfNone result (self.new ≡ self.old) }
+    {
+        let node = self.nodes.get_mut(id.index())?.take()?;
+        self.wires.retain(|wire| !wire.is_at(id));
+        Some(node)
+    }
+
+    /// The live node of this id. `None` exactly where there is none.
     pub fn node(&self, id: NodeId) -> Option<&Node>
         ensures live { option_copied result ≡ node_at self.now id }
         ensures right { IfSome (node_at self.now id) NodeOk }
+        ensures names { IfSome (node_at self.now id) (λ node. map_of.get (by_names self.now).nodes node.name ≡ Some (body_of node)) }
     {
-        match self.nodes.get(id.index()) {
-            Some(Some(node)) => Some(node),
-            _ => None,
+        node_in(&self.nodes, id.index())
+    }
+
+    /// The live node with this name. `None` exactly where there is none.
+    pub fn find(&self, name: &[u8]) -> Option<NodeId>
+        ensures found { IfSome result (λ id. HasName self.now id name.now) }
+        ensures none { IfNone result ((id : NodeId) → ¬ (HasName self.now id name.now)) }
+        ensures names { is_some result ≡ map_of.contains_key (by_names self.now).nodes name.now }
+    {
+        index_of(&self.nodes, name).map(NodeId::new)
+    }
+
+    /// The output that feeds this input. `None` exactly where the input stands on no wire.
+    pub fn wire_into(&self, target: PortAt) -> Option<PortAt>
+        ensures feeder { result ≡ map_of.get self.now.feeders target }
+        ensures live { IfSome result (λ source. IsSome (node_at self.now source.node)) }
+        ensures names { IsSome (node_at self.now target.node) → option_map (port_named self.now) result ≡ map_of.get (by_names self.now).feeders (port_named self.now target) }
+    {
+        source_in(&self.wires, target)
+    }
+
+    /// The input that this output feeds. `None` exactly where the output stands on no wire.
+    pub fn wire_from(&self, source: PortAt) -> Option<PortAt>
+        ensures fed { IfSome result (λ target. map_of.get self.now.feeders target ≡ Some source) }
+        ensures none { IfNone result ((target : PortAt) → map_of.get self.now.feeders target ≢ Some source) }
+        ensures live { IfSome result (λ target. IsSome (node_at self.now target.node)) }
+        ensures names { IfSome result (λ target. map_of.get (by_names self.now).feeders (port_named self.now target) ≡ Some (port_named self.now source)) }
+    {
+        target_in(&self.wires, source)
+    }
+
+    /// The ids of the live nodes in the byte order of their names. The only error is want of memory.
+    pub fn by_name(&self, alloc: Global) -> Result<Vec<NodeId>, NoMemory>
+        ensures { IfOk result (λ ids. map (λ id. option_map named (node_at self.now id)) ids.items ≡ map Some (map_of.entries (by_names self.now).nodes)) }
+    {
+        let mut named = Vec::with_capacity(alloc, self.nodes.len())?;
+        for (index, slot) in self.nodes.iter().enumerate() {
+            if let Some(node) = slot {
+                named.push((node.name.bytes(), NodeId::new(index)))?;
+            }
         }
+        named.sort()?;
+        Ok(named.iter().map(|entry| entry.1).collect(alloc)?)
     }
 }
 
-/// The first port that stands on no wire, in the order of ids, inputs before outputs, by number.
+/// Whether each port of each node stands on a wire. If not, the error is the first that stands on none, in the order of ids, inputs before outputs, by number.
 pub fn check_typed(g: &Graph) -> Result<(), PortOpen>
+    ensures typed { IsOk result ↔ IsTyped (by_names g.now) }
+    ensures first { IfErr result (IsFirstOpen g.now) }
 {
+    for index in 0..g.nodes.len() {
+        let id = NodeId::new(index);
+        if let Some(node) = g.node(id) {
+            check_node(g, id, &node.kind)?;
+        }
+    }
+    Ok(())
+}
+
+/// Whether each port of the node stands on a wire, inputs first.
+fn check_node(g: &Graph, node: NodeId, kind: &Kind) -> Result<(), PortOpen> {
+    for port in 1..=inputs(kind) {
+        if g.wire_into(PortAt { node, port }).is_none() {
+            let side = Side::Ins;
+            return Err(PortOpen { node, side, port });
+        }
+    }
+    for port in 1..=outputs(kind) {
+        if g.wire_from(PortAt { node, port }).is_none() {
+            let side = Side::Outs;
+            return Err(PortOpen { node, side, port });
+        }
+    }
     Ok(())
 }

@@ -33,7 +33,11 @@ impl Kind {
             (Kind::Fork(shape, count), Side::Outs) => (shape, *count),
             (Kind::Entry(_), Side::Ins) | (Kind::Exit(_), Side::Outs) => return None,
         };
-        if 1 <= port && port <= count { Some(shape) } else { None }
+        if 1 <= port && port <= count {
+            Some(shape)
+        } else {
+            None
+        }
     }
 }
 

@@ -9,10 +9,14 @@
 
 mod graph;
 mod kind;
+mod name;
 mod node;
 mod place;
+mod slots;
+mod wires;
 
 pub use graph::{AddNode, AddWire, Graph, PortOpen, check_typed};
 pub use kind::{Kind, inputs, kind_ok, outputs, port_shape};
+pub use name::is_name;
 pub use node::Node;
 pub use place::{NodeId, PortAt};

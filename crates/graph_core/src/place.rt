@@ -1,21 +1,24 @@
 ghost use Rattle.std.specs.Prelude.{◌≡◌};
+ghost use Rattle.graph_core.specs.Place.{index_of, id_of};
 
-use std::marker::Model;
-
-/// Which node of a graph: its index. Contracts see the number.
+/// Which node of a graph: its index.
 #[derive(Clone, Copy, Debug, PartialEq, Eq, PartialOrd, Ord, Hash)]
 pub struct NodeId {
     index: usize,
 }
 
-impl Model for NodeId {
-    ghost use Rattle.std.specs.Prelude.{ℕ};
+impl NodeId {
+    pub(crate) fn new(index: usize) -> NodeId
+        ensures { result ≡ id_of index }
+    {
+        NodeId { index }
+    }
 
-    ghost Value = { ℕ };
-
-    ghost view = { λ id. id.index };
-
-    ghost inverse = { λ index. record { index = index } };
+    pub(crate) fn index(self) -> usize
+        ensures { result ≡ index_of self }
+    {
+        self.index
+    }
 }
 
 /// Which port of which node, on one side. The ports of a side are counted from 1.
@@ -23,18 +26,4 @@ impl Model for NodeId {
 pub struct PortAt {
     pub node: NodeId,
     pub port: u8,
-}
-
-impl NodeId {
-    pub(crate) fn new(index: usize) -> NodeId
-        ensures { result ≡ index }
-    {
-        NodeId { index }
-    }
-
-    pub(crate) fn index(self) -> usize
-        ensures { result ≡ self }
-    {
-        self.index
-    }
 }

@@ -1,0 +1,4 @@
+pub mod Orders
+pub mod ByNames
+pub mod ByNamesAfter
+pub mod TypedByNames
