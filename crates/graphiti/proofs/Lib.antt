@@ -1,0 +1,3 @@
+pub mod Stripping
+pub mod SmallLines
+pub mod OneGraph

@@ -1,0 +1,5 @@
+pub mod CanonicalText
+pub mod SmallText
+pub mod Stripped
+pub mod SmallLine
+pub mod Strips

@@ -1,0 +1,33 @@
+-- Dropping the Buffers of a graph one after the other.
+use Rattle.std.specs.Prelude.{◌≡◌, ◌≢◌, ◌⊎◌, List, [], ◌∷◌, Some}
+use Rattle.std.specs.FinMap as map
+use Rattle.graph_core.specs.Name.{Name, Port}
+use Rattle.graph_core.specs.NamedGraph.{NamedGraph, IsTyped, with_wire, without_node}
+use Rattle.graphiti.specs.Stripped.{IsBuffer, first_port, IsStripped}
+
+-- without a Buffer that is not wired to itself, what fed it feeds what it fed
+pub record Drops (g : NamedGraph) (name : Name) (h : NamedGraph) : Type 0 where
+  pub source : Port
+  pub target : Port
+  pub buffer : IsBuffer g name
+  pub fed : map.get g.feeders (first_port name) ≡ Some source
+  pub feeds : map.get g.feeders target ≡ Some (first_port name)
+  pub other : source.node ≢ name
+  pub after : h ≡ with_wire (without_node g name) source target
+
+-- it is no Buffer, or is wired to itself
+abbrev pub StaysAtTurn : NamedGraph → Name → Type 0
+StaysAtTurn g name = ¬ (IsBuffer g name) ⊎ (map.get g.feeders (first_port name) ≡ Some (first_port name))
+
+-- the turn of one node
+abbrev pub Turn : NamedGraph → Name → NamedGraph → Type 0
+Turn g name h = (StaysAtTurn g name × (g ≡ h)) ⊎ Drops g name h
+
+-- the turns of these nodes, one after the other
+abbrev pub Turns : NamedGraph → List Name → NamedGraph → Type 0
+Turns g [] h = g ≡ h
+Turns g (name ∷ names) h = (between : NamedGraph) × Turn g name between × Turns between names h
+
+-- when each node had its turn, in the order of their names, the graph is stripped
+abbrev pub TurnsStrip : Type 0
+TurnsStrip = (g h : NamedGraph) → IsTyped g → Turns g (map.keys g.nodes) h → IsStripped g h × IsTyped h

@@ -1,0 +1,4 @@
+//! The program `graphiti`.
+#![tactic(auto)]
+
+fn main(_rt: HostRuntime) {}
