@@ -4,6 +4,7 @@ ghost use Rattle.gx_base.specs.Stream.{after, Rose};
 
 use crate::source::Failed;
 
+/// What takes bytes, a piece at a time.
 pub trait Sink {
     /// The bytes taken, where the sink tells them.
     ghost taken: { Self → Option (List ℕ) };

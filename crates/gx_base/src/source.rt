@@ -2,10 +2,11 @@
 ghost use Rattle.std.specs.Prelude.{◌≡◌, ℕ, ◌<◌, ◌≤◌, List, Option, [], take, length, IfOk, OnErr, IfSome};
 ghost use Rattle.gx_base.specs.Stream.{before, Rose};
 
-/// A read or a write failed. The stream counts its faults, and tells no more of them.
+/// The answer of a read or a write that failed. The stream counts these, and tells no more of them.
 #[derive(Clone, Copy, Debug, PartialEq, Eq)]
 pub struct Failed;
 
+/// What gives bytes, a piece at a time, until there are none.
 pub trait Source {
     /// The bytes left, where the source tells them.
     ghost left: { Self → Option (List ℕ) };

@@ -9,17 +9,19 @@ use std::alloc::Global;
 // The most bytes that one read asks for.
 const PIECE: usize = 4096;
 
-/// Why a stream was not read whole: a read failed, it has more bytes than it may have, or there was
-/// no memory for them.
+/// Why a stream was not read whole.
 #[derive(Clone, Copy, Debug, PartialEq, Eq)]
 pub enum ReadAllFault {
+    /// A read failed.
     ReadFault,
+    /// There are more bytes than there may be.
     TooLong,
+    /// There was no memory for the bytes.
     NoMemory,
 }
 
 /// All that a source has left, if that is at most `max` bytes. It takes one byte more than `max`
-/// before it answers `TooLong`, and never more.
+/// before it answers `TooLong`, and never more. The first read that fails ends it.
 pub fn read_all<S: Source>(alloc: Global, src: &mut S, max: usize) -> Result<Vec<u8>, ReadAllFault>
     requires { max < 2 ^ 64 - 1 }
 
@@ -30,7 +32,7 @@ pub fn read_all<S: Source>(alloc: Global, src: &mut S, max: usize) -> Result<Vec
     ensures within { IfOk result (λ bytes. length bytes.items ≤ max) }
     ensures too_long { IsErrOf result ReadAllFault.TooLong → Gave (λ count. count ≡ max + 1) (S.left src.old) (S.left src.new) }
     ensures read_fault { IsErrOf result ReadAllFault.ReadFault → Gave (λ count. count ≤ max) (S.left src.old) (S.left src.new) }
-    ensures no_memory { IsErrOf result ReadAllFault.NoMemory → Gave (λ count. count ≤ max) (S.left src.old) (S.left src.new) }
+    ensures no_memory { IsErrOf result ReadAllFault.NoMemory → Gave (λ count. (0 < count) × (count ≤ max)) (S.left src.old) (S.left src.new) }
     ensures fault { IsErrOf result ReadAllFault.ReadFault → Rose (S.faults src.old) (S.faults src.new) }
 
     // Where the source tells its bytes, these are all of them, and none are left.
@@ -68,7 +70,7 @@ fn read_piece<S: Source>(
 
     ensures too_long { IsErrOf result ReadAllFault.TooLong → Gave (λ count. count ≡ max + 1) (before bytes.old.items (S.left src.old)) (S.left src.new) }
     ensures read_fault { IsErrOf result ReadAllFault.ReadFault → Gave (λ count. count ≤ max) (before bytes.old.items (S.left src.old)) (S.left src.new) }
-    ensures no_memory { IsErrOf result ReadAllFault.NoMemory → Gave (λ count. count ≤ max) (before bytes.old.items (S.left src.old)) (S.left src.new) }
+    ensures no_memory { IsErrOf result ReadAllFault.NoMemory → Gave (λ count. (0 < count) × (count ≤ max)) (before bytes.old.items (S.left src.old)) (S.left src.new) }
     ensures fault { IsErrOf result ReadAllFault.ReadFault → Rose (S.faults src.old) (S.faults src.new) }
 {
     let room = max - bytes.len();
@@ -76,17 +78,20 @@ fn read_piece<S: Source>(
     let Ok(given) = src.read(&mut buf[..asked]) else {
         return Err(ReadAllFault::ReadFault);
     };
+    if given == 0 {
+        return Ok(false);
+    }
     if given > room {
         return Err(ReadAllFault::TooLong);
     }
     match bytes.extend_from_slice(&buf[..given]) {
-        Ok(()) => Ok(given > 0),
+        Ok(()) => Ok(true),
         Err(_) => Err(ReadAllFault::NoMemory),
     }
 }
 
-/// Writes all the bytes: each write offers those not yet taken. A write that fails ends it, with the
-/// number of bytes taken until then.
+/// Writes all the bytes: each write offers those not yet taken. The first write that fails ends it,
+/// with the number of bytes taken before.
 pub fn write_all<O: Sink>(out: &mut O, bytes: &[u8]) -> Result<(), usize>
     ensures never_falls { O.faults out.old ≤ O.faults out.new }
 
