@@ -6,7 +6,15 @@ use std::io;
 use std::io::{Cursor, ErrorKind, Read, Write};
 use std::test::Fail;
 
-const TEXT: &[u8; 20] = b"All the bytes to be.";
+const TEXT: &[u8] = b"All the bytes to be.";
+
+// One less than the length of a piece.
+const SHORTER: [u16; 3] = [0, 6, 4095];
+
+fn rest_of_text(from: usize) -> &'static [u8] {
+    let text = TEXT;
+    &text[from.min(text.len())..]
+}
 
 // A reader that never gives anything.
 #[derive(Drop)]
@@ -50,7 +58,8 @@ impl Write for StuckBuffer {
 fn pieces_of_any_length_give_the_same(rt: HostRuntime) -> Result<(), Fail> {
     let alloc = rt.alloc();
     let text = vec![in alloc; 7; 5000]?;
-    for piece in [1usize, 7, 4096] {
+    for shorter in SHORTER {
+        let piece = usize::from(shorter) + 1;
         let mut source = MemSource::new(text.clone()?, piece, Vec::new(alloc));
         assert_eq!(rt;
             read_all(alloc, &mut source, 5000)?.as_slice(),
@@ -76,14 +85,11 @@ fn a_read_that_fails_is_a_fault(rt: HostRuntime) -> Result<(), Fail> {
         assert_eq!(rt; answer.err(), Some(ReadAllFault::ReadFault));
         assert_eq!(rt;
             read_all(alloc, &mut source, 100)?.as_slice(),
-            &TEXT[read..]
+            rest_of_text(read)
         );
     }
     let mut source = MemSource::new(TEXT.to_vec(alloc)?, 8, [5, 0].to_vec(alloc)?);
-    assert_eq!(rt;
-        read_all(alloc, &mut source, 20)?.as_slice(),
-        TEXT.as_slice()
-    );
+    assert_eq!(rt; read_all(alloc, &mut source, 20)?.as_slice(), TEXT);
     assert_eq!(rt; source.read(&mut [0; 9]), Err(Failed));
     Ok(())
 }
@@ -91,14 +97,16 @@ fn a_read_that_fails_is_a_fault(rt: HostRuntime) -> Result<(), Fail> {
 #[test]
 fn one_byte_too_many_is_too_long(rt: HostRuntime) -> Result<(), Fail> {
     let alloc = rt.alloc();
-    for piece in [1usize, 7, 4096] {
-        for max in [0usize, 6, 7, 19] {
+    for shorter in SHORTER {
+        for max in [0u8, 6, 7, 19] {
+            let piece = usize::from(shorter) + 1;
+            let max = usize::from(max);
             let mut source = CleanSource::new(TEXT.to_vec(alloc)?, piece);
             let answer = read_all(alloc, &mut source, max);
             assert_eq!(rt; answer.err(), Some(ReadAllFault::TooLong));
             assert_eq!(rt;
                 read_all(alloc, &mut source, 20)?.as_slice(),
-                &TEXT[max + 1..]
+                rest_of_text(max + 1)
             );
         }
     }
@@ -126,7 +134,7 @@ fn a_sink_takes_what_it_has_room_for(rt: HostRuntime) -> Result<(), Fail> {
         let failing = [failing].to_vec(alloc)?;
         let mut sink = MemSink::new(alloc, piece.max(1), room, failing)?;
         assert_eq!(rt; write_all(&mut sink, TEXT), answer);
-        assert_eq!(rt; sink.taken(), &TEXT[..taken.min(20)]);
+        assert_eq!(rt; sink.taken(), &TEXT[..taken.min(TEXT.len())]);
         assert_eq!(rt; write_all(&mut sink, b""), Ok(()));
     }
     Ok(())
@@ -135,12 +143,9 @@ fn a_sink_takes_what_it_has_room_for(rt: HostRuntime) -> Result<(), Fail> {
 #[test]
 fn readers_are_sources(rt: HostRuntime) -> Result<(), Fail> {
     let alloc = rt.alloc();
-    let mut slice = StdSource::new(TEXT.as_slice());
-    assert_eq!(rt;
-        read_all(alloc, &mut slice, 20)?.as_slice(),
-        TEXT.as_slice()
-    );
-    let mut cursor = StdSource::new(Cursor::new(TEXT.as_slice()));
+    let mut slice = StdSource::new(TEXT);
+    assert_eq!(rt; read_all(alloc, &mut slice, 20)?.as_slice(), TEXT);
+    let mut cursor = StdSource::new(Cursor::new(TEXT));
     assert_eq!(rt;
         read_all(alloc, &mut cursor, 4).err(),
         Some(ReadAllFault::TooLong)
@@ -158,7 +163,7 @@ fn writers_are_sinks(rt: HostRuntime) -> Result<(), Fail> {
     let mut bytes = Vec::new(rt.alloc());
     let mut sink = StdSink::new(&mut bytes);
     assert_eq!(rt; write_all(&mut sink, TEXT), Ok(()));
-    assert_eq!(rt; bytes.as_slice(), TEXT.as_slice());
+    assert_eq!(rt; bytes.as_slice(), TEXT);
     assert_eq!(rt; write_all(&mut StdSink::new(FullWriter), TEXT), Err(0));
     assert_eq!(rt; write_all(&mut StdSink::new(StuckBuffer), TEXT), Err(0));
     assert_eq!(rt;

@@ -81,7 +81,8 @@ fn read_piece<S: Source>(
     if given == 0 {
         return Ok(false);
     }
-    if given > room {
+    let too_long = given > room;
+    if too_long {
         return Err(ReadAllFault::TooLong);
     }
     match bytes.extend_from_slice(&buf[..given]) {
