@@ -1,0 +1,4 @@
+pub mod Stream
+pub mod CleanSource
+pub mod MemSource
+pub mod MemSink
