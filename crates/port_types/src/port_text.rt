@@ -1,4 +1,4 @@
-ghost use Rattle.std.specs.Prelude.{◌≡◌, ◌+◌, ◌^◌, ◌<◌, ◌++◌, OnOk, map, length, string_bytes};
+ghost use Rattle.std.specs.Prelude.{◌≡◌, ◌≤◌, ◌++◌, OnOk, length, string_bytes};
 ghost use Rattle.std.specs.Fmt.{decimal};
 ghost use Rattle.port_types.specs.PortText.{port_name, port_text, ports_text, shape_text};
 
@@ -44,4 +44,19 @@ pub fn push_port(text: &mut String, side: Side, number: u8, shape: &Shape) -> Re
     push_port_name(text, side, number)?;
     text.push(':')?;
     push_shape(text, shape.widths())
+}
+
+/// Appends the texts of the ports of a side, numbered from 1 and joined by spaces, as `in1:1 in2:4.32`.
+/// After `NoMemory` a part of it may have been appended.
+pub fn push_ports(text: &mut String, side: Side, ports: &[Shape]) -> Result<(), NoMemory>
+    requires { length ports.now ≤ 64 }
+    ensures { OnOk result (string_bytes text.new ≡ string_bytes text.old ++ ports_text side ports.now) }
+{
+    for (index, shape) in ports.iter().enumerate() {
+        if index > 0 {
+            text.push(' ')?;
+        }
+        push_port(text, side, index as u8 + 1, shape)?;
+    }
+    Ok(())
 }
