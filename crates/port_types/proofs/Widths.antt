@@ -1,5 +1,5 @@
 -- Numbers against the widths of fields.
-use Rattle.std.proofs.Common.{◌≡◌, ℕ, ◌+◌, ◌*◌, ◌/◌, ◌^◌, ◌<◌, ◌≤◌, ◌↔◌, List, [], ◌∷◌, length, nat_eq, nat_lt, IsTrue, Bool, true, false, refl, arith, rules, tests}
+use Rattle.std.proofs.Common.{◌≡◌, ℕ, ◌*◌, ◌/◌, ◌^◌, ◌<◌, ◌↔◌, List, [], ◌∷◌, length, nat_eq, nat_lt, IsTrue, Bool, refl, arith, rules, tests}
 use Rattle.std.specs.List.{zip, list_all}
 use Rattle.std.proofs.Math.Nat.{div-lt_iff_lt-mul}
 use Rattle.std.proofs.lemmas.Nat.{pow_pos}

@@ -13,6 +13,8 @@ mod memory;
 mod port_text;
 mod shape;
 mod side;
+#[cfg(test)]
+mod tests;
 mod text;
 mod token;
 

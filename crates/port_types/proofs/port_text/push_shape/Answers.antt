@@ -7,6 +7,6 @@ use Rattle.port_types.proofs.port_text.push_shape.Goals.{then-index-gt0+in_ok-pu
 pub loop-index-preserved : goal.loop-index-preserved
 loop-index-preserved c =
     elim c.if-index-gt0.branch [
-      then-index-gt0+in_ok-push w ↦ let next = shape_text-next c.args.widths.now c.loop-index.index (omega arith) (omega arith) in grind (arith, common_steps, next)
-    | else-index-gt0 w ↦ let first = shape_text-first c.args.widths.now c.loop-index.index (omega arith) (omega arith) in grind (arith, common_steps, first)
+      | then-index-gt0+in_ok-push w ↦ let next = shape_text-next c.args.widths.now c.loop-index.index (omega arith) (omega arith) in grind (arith, common_steps, next)
+      | else-index-gt0 w ↦ let first = shape_text-first c.args.widths.now c.loop-index.index (omega arith) (omega arith) in grind (arith, common_steps, first)
     ]
