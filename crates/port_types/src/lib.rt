@@ -4,7 +4,7 @@
 //! - `Shape`: 1 to 128 widths of fields, each from 0 to 64 bits.
 //! - `Token`: a list of numbers, one for each field of the shape that it fits.
 //! - `Items`: a list in a public type, which contracts see as the list of what it holds.
-//! - `push_port_name`, `push_port`: port texts, as `out1` and `in2:4.32`.
+//! - `push_port_name`, `push_port`, `push_ports`: port texts, as `out1`, `in2:4.32` and `in1:1 in2:4.32`.
 //! - `NoMemory`: the answer of a call for which there was no memory.
 #![tactic(auto)]
 
@@ -13,12 +13,14 @@ mod memory;
 mod port_text;
 mod shape;
 mod side;
+#[cfg(test)]
+mod tests;
 mod text;
 mod token;
 
 pub use items::Items;
 pub use memory::NoMemory;
-pub use port_text::{push_port, push_port_name};
+pub use port_text::{push_port, push_port_name, push_ports};
 pub use shape::{Shape, is_shape, same_shape};
 pub use side::Side;
 pub use text::Text;

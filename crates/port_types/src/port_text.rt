@@ -1,4 +1,4 @@
-ghost use Rattle.std.specs.Prelude.{◌≡◌, ◌+◌, ◌^◌, ◌<◌, ◌++◌, OnOk, map, length, string_bytes};
+ghost use Rattle.std.specs.Prelude.{◌≡◌, ◌==◌, ◌≤◌, ◌<◌, [], ◌∷◌, ◌++◌, if◌then◌else◌, OnOk, length, string_bytes};
 ghost use Rattle.std.specs.Fmt.{decimal};
 ghost use Rattle.port_types.specs.PortText.{port_name, port_text, ports_text, shape_text};
 
@@ -16,11 +16,23 @@ pub fn push_port_name(text: &mut String, side: Side, number: u8) -> Result<(), N
     push_decimal(text, number)
 }
 
-/// Appends a number in decimal. After `NoMemory` the text is as before.
+/// Appends a number in decimal.
 fn push_decimal(text: &mut String, number: u8) -> Result<(), NoMemory>
     ensures { OnOk result (string_bytes text.new ≡ string_bytes text.old ++ decimal number) }
 {
     write!(text, "{number}")?;
+    Ok(())
+}
+
+/// Appends the separator, but nothing before the first piece.
+fn push_separator(text: &mut String, index: usize, separator: char) -> Result<(), NoMemory>
+    requires { separator < 128 }
+    ensures { OnOk result (string_bytes text.new
+        ≡ string_bytes text.old ++ (if index == 0 then [] else separator ∷ [])) }
+{
+    if index > 0 {
+        text.push(separator)?;
+    }
     Ok(())
 }
 
@@ -29,9 +41,7 @@ fn push_shape(text: &mut String, widths: &[u8]) -> Result<(), NoMemory>
     ensures { OnOk result (string_bytes text.new ≡ string_bytes text.old ++ shape_text widths.now) }
 {
     for (index, width) in widths.iter().enumerate() {
-        if index > 0 {
-            text.push('.')?;
-        }
+        push_separator(text, index, '.')?;
         push_decimal(text, *width)?;
     }
     Ok(())
@@ -44,4 +54,17 @@ pub fn push_port(text: &mut String, side: Side, number: u8, shape: &Shape) -> Re
     push_port_name(text, side, number)?;
     text.push(':')?;
     push_shape(text, shape.widths())
+}
+
+/// Appends the texts of the ports of a side, numbered from 1 and joined by spaces, as `in1:1 in2:4.32`.
+/// After `NoMemory` a part of it may have been appended.
+pub fn push_ports(text: &mut String, side: Side, ports: &[Shape]) -> Result<(), NoMemory>
+    requires { length ports.now ≤ 64 }
+    ensures { OnOk result (string_bytes text.new ≡ string_bytes text.old ++ ports_text side ports.now) }
+{
+    for (index, shape) in ports.iter().enumerate() {
+        push_separator(text, index, ' ')?;
+        push_port(text, side, index as u8 + 1, shape)?;
+    }
+    Ok(())
 }

@@ -27,6 +27,7 @@ impl Text {
     {
         match String::from_utf8(bytes) {
             Ok(text) => {
+                // A proof knows that a `String` is UTF-8 once it is read as a `str`.
                 let _ = text.as_str();
                 Some(Text { text })
             }

@@ -54,6 +54,7 @@ fn fields_fit(widths: &[u8], numbers: &[u64]) -> bool
 }
 
 /// Whether the number is below 2 to the power of the width.
+#[tactic(auto, using(crate::proofs::Widths::shifted_out))]
 fn field_fits(width: u8, number: u64) -> bool
     requires { width ≤ 64 }
     ensures { IsTrue result ↔ (number < 2 ^ width) }
