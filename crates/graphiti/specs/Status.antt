@@ -1,0 +1,22 @@
+-- What each status is to whoever ran the program.
+use Rattle.std.specs.Prelude.{ℕ, List, [], codes}
+use Rattle.graphiti.specs.declared.status.Status.{Status}
+use Rattle.graphiti.specs.declared.status.Status.TheVariants.{Done, TooLong, ReadFault, WriteFault, NoMemory, NotYet}
+
+-- the program's exit status
+abbrev pub number_of : Status → ℕ
+number_of Done = 0
+number_of TooLong = 2
+number_of ReadFault = 6
+number_of WriteFault = 7
+number_of NoMemory = 8
+number_of NotYet = 10
+
+-- the line on the error stream
+abbrev pub line_of : Status → List ℕ
+line_of Done = []
+line_of TooLong = codes "graphiti: input longer than 16777216 bytes\n"
+line_of ReadFault = codes "graphiti: read failed\n"
+line_of WriteFault = codes "graphiti: write failed\n"
+line_of NoMemory = codes "graphiti: no memory\n"
+line_of NotYet = codes "graphiti: not yet\n"
