@@ -1,3 +1,6 @@
+mod Options
+mod Maps
+mod NamedNodes
 pub mod Orders
 pub mod ByNames
 pub mod ByNamesAfter
