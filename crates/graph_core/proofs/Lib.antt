@@ -1,4 +1,5 @@
 mod Options
+mod Each
 mod Maps
 mod NamedNodes
 pub mod Orders

@@ -7,6 +7,7 @@ use Rattle.std.specs.FinMap.{FinMap, IsAntisymmetric, find, is_sorted, entries, 
 use Rattle.std.specs.FinMap.Entries.{below_all}
 use Rattle.std.proofs.lemmas.Option.{same_Some}
 use Rattle.graph_core.proofs.Options.{none_some}
+use Rattle.graph_core.proofs.Each.{each_weaker}
 
 -- two keys are one, or they are not, as the test says
 pub record Same {K : Type 0} (R : K → K → Ordering) (q k : K) : Type 0 where
@@ -69,10 +70,6 @@ below_apart : (r : Ordering) → T (is_lt r) → is_eq (ordering_reverse r) ≡ 
 below_apart Less h = refl
 below_apart Equal h = absurd h
 below_apart Greater h = absurd h
-
-pub each_weaker : {X : Type 0} (P Q : X → Type 0) → ((x : X) → P x → Q x) → (xs : List X) → AllByRecursion P xs → AllByRecursion Q xs
-each_weaker P Q weaker [] each = tt
-each_weaker P Q weaker (x ∷ xs) each = (weaker x each.0, each_weaker P Q weaker xs each.1)
 
 module _ {K X : Type 0} {R : K → K → Ordering} (total : IsTotalOrder R) (same : IsAntisymmetric R) where
   found_later : (e : K × X) (all es : List (K × X)) → T (below_all R e.0 es) → AllByRecursion (λ x. find R x.0 all ≡ Some x.1) es → AllByRecursion (λ x. find R x.0 (e ∷ all) ≡ Some x.1) es
