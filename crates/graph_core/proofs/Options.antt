@@ -1,5 +1,5 @@
 -- Two answers are one, and an answer is there or not.
-use Rattle.std.proofs.Common.{◌≡◌, ◌⊎◌, inl, inr, Option, Some, None, refl, sym}
+use Rattle.std.proofs.Common.{◌≡◌, ◌⊎◌, inl, inr, Option, Some, None, IsSome, refl, sym, true≢false}
 
 -- a split on an answer
 pub answer_cases : {A : Type 0} (o : Option A) → ((x : A) × (o ≡ Some x)) ⊎ (o ≡ None)
@@ -14,3 +14,7 @@ same_answers (Some x) p there back = sym (there x refl)
 
 pub none_some : {A : Type 0} {o : Option A} (x : A) → o ≡ None → o ≡ Some x → ⊥
 none_some x e f = cc
+
+pub some_there : {A : Type 0} (o : Option A) → IsSome o → (x : A) × (o ≡ Some x)
+some_there None there = absurd (true≢false (sym there))
+some_there (Some x) there = (x, refl)
