@@ -10,12 +10,12 @@ use Rattle.graph_core.specs.Place.{index_of, id_of}
 use Rattle.graph_core.specs.Name.{Name, Port, port_get}
 use Rattle.graph_core.specs.Kind.{Shape, ins, outs, ports}
 use Rattle.graph_core.specs.Node.{Body, body_of}
-use Rattle.graph_core.specs.GraphValue.{GraphValue, node_at, shape_of, by_names, named_nodes, named_wire, name_of, port_named, HasName, IsGraph}
+use Rattle.graph_core.specs.GraphValue.{GraphValue, node_at, shape_of, by_names, named_nodes, name_of, port_named, HasName, IsGraph}
 use Rattle.graph_core.proofs.Options.{none_some, answer_cases}
 use Rattle.graph_core.proofs.Each.{each_weaker}
 use Rattle.graph_core.proofs.Maps.{each_found, renamed_found, renamed_behind}
 use Rattle.graph_core.proofs.NamedNodes.{named_found, named_behind}
-use Rattle.graph_core.proofs.Orders.{name_total, name_same, port_total, port_same, place_total, place_same}
+use Rattle.graph_core.proofs.Orders.{name_total, port_total, port_same, place_total, place_same}
 
 -- Nodes
 
@@ -89,11 +89,7 @@ IsInputAlone g target = (p source : PortAt) → map.get g.feeders p ≡ Some sou
 
 pub wire_found_alone : (g : GraphValue) (target source : PortAt) → IsInputAlone g target → map.get g.feeders target ≡ Some source → map.get (by_names g).feeders (port_named g target) ≡ Some (port_named g source)
 wire_found_alone g target source alone wired =
-    let each = each_weaker
-        (λ wire. map.get g.feeders wire.0 ≡ Some wire.1)
-        (λ wire. port_named g wire.0 ≡ port_named g target → wire.0 ≡ target)
-        (λ wire found. alone wire.0 wire.1 found)
-        (map.entries g.feeders) (each_found place_total place_same g.feeders) in
+    let each = each_weaker (λ wire. map.get g.feeders wire.0 ≡ Some wire.1) (λ wire. port_named g wire.0 ≡ port_named g target → wire.0 ≡ target) (λ wire found. alone wire.0 wire.1 found) (map.entries g.feeders) (each_found place_total place_same g.feeders) in
     map.get-from_entries port_total _ (port_named g target)
     ∙ renamed_found place_total place_same port_total port_same (port_named g) (port_named g) (map.entries g.feeders) target source each (sym (map.get-entries g.feeders target) ∙ wired)
 
@@ -116,14 +112,15 @@ pub record WireBehind (g : GraphValue) (target source : Port) : Type 0 where
 
 pub wire_behind : (g : GraphValue) (target source : Port) → map.get (by_names g).feeders target ≡ Some source → WireBehind g target source
 wire_behind g target source found =
-    let wire = renamed_behind place_total place_same port_total port_same (port_named g) (port_named g) (λ wire. map.get g.feeders wire.0 ≡ Some wire.1) (map.entries g.feeders) target source (each_found place_total place_same g.feeders) (sym (map.get-from_entries port_total _ target) ∙ found) in
+    let each = each_found place_total place_same g.feeders in
+    let wire = renamed_behind place_total place_same port_total port_same (port_named g) (port_named g) (λ wire. map.get g.feeders wire.0 ≡ Some wire.1) (map.entries g.feeders) target source each (sym (map.get-from_entries port_total _ target) ∙ found) in
     record { from = wire.entry.1; to = wire.entry.0; wired = wire.holds; is_from = wire.is_value; is_to = wire.is_key }
 
 -- an input of a live node that stands on no wire stands on none by names
 pub wire_none : (g : GraphValue) → IsGraph g → (target : PortAt) (node : Node) → node_at g target.node ≡ Some node → map.get g.feeders target ≡ None → map.get (by_names g).feeders (port_named g target) ≡ None
 wire_none g ok target node live free =
     elim (answer_cases (map.get (by_names g).feeders (port_named g target))) [
-      | inl found ↦ 
+      | inl found ↦
           let wire = wire_behind g (port_named g target) found.0 found.1 in
           let one : wire.to ≡ target = input_alone g ok target node live wire.to wire.from wire.wired wire.is_to in
           absurd (none_some wire.from free (rw one at wire.wired))

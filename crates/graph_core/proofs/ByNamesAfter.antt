@@ -1,23 +1,21 @@
 -- What the changes of a graph do to the graph by names.
-use Rattle.std.proofs.Common.{◌≡◌, ◌≢◌, ℕ, inl, inr, Bool, true, false, not, ◌||◌, if◌then◌else◌, List, [], ◌∷◌, ◌++◌, map as list_map, length, Option, Some, None, bytes_eq, refl, sym, ap, ◌∙◌}
-use Rattle.std.specs.Prelude.{slice_get, slice_set}
+use Rattle.std.proofs.Common.{◌≡◌, ◌≢◌, inl, inr, Bool, true, false, not, ◌||◌, if◌then◌else◌, List, [], ◌∷◌, map as list_map, length, Option, Some, None, bytes_eq, refl, sym, ap, ◌∙◌}
+use Rattle.std.specs.Prelude.{slice_get}
 use Rattle.std.specs.FinMap as map
 use Rattle.std.proofs.lemmas.Bool.{cases_eq, eqb-false, ne_eqb, both_ways, false_from_ne_true, or_parts, or_from, not-true, not_from_false}
 use Rattle.std.proofs.lemmas.Option.{same_Some}
 use Rattle.std.proofs.lemmas.Slice.Eq.{bytes_eq-Decides}
-use Rattle.port_types.specs.declared.side.Side.{Side}
 use Rattle.port_types.specs.declared.side.Side.TheVariants.{Ins, Outs}
 use Rattle.graph_core.specs.declared.node.Node.{Node}
 use Rattle.graph_core.specs.declared.place.NodeId.{NodeId}
 use Rattle.graph_core.specs.declared.place.PortAt.{PortAt}
-use Rattle.graph_core.specs.declared.graph.AddWire.{AddWire}
 use Rattle.graph_core.specs.declared.graph.AddWire.TheVariants.{PortTaken, ShapeDiffers, UnknownPort}
 use Rattle.graph_core.specs.Place.{index_of, place_cmp}
 use Rattle.graph_core.specs.Name.{Name, Port}
 use Rattle.graph_core.specs.Kind.{Shape}
 use Rattle.graph_core.specs.Node.{Body, body_of}
 use Rattle.graph_core.specs.NamedGraph.{no_graph, with_node, with_wire, without_node, is_of}
-use Rattle.graph_core.specs.GraphValue.{GraphValue, flat, node_at, shape_at, named_nodes, named_wire, name_of, by_names, port_named, is_at, HasName, IsGraph, with_slot, with_feeder, without_slot}
+use Rattle.graph_core.specs.GraphValue.{GraphValue, flat, node_at, shape_at, named_nodes, named_wire, name_of, by_names, port_named, is_at, IsGraph, with_slot, with_feeder, without_slot}
 use Rattle.graph_core.specs.Wiring.{fault_between, is_taken, wire_fault}
 use Rattle.graph_core.proofs.Options.{none_some, same_answers}
 use Rattle.graph_core.proofs.Each.{each_weaker, same_each}
@@ -40,16 +38,15 @@ by_names-empty =
 port_kept : (g : GraphValue) (node : Node) (p : PortAt) (found : Node) → node_at g p.node ≡ Some found → port_named (with_slot g node) p ≡ port_named g p
 port_kept g node p found live = λ i. record { node = name_of ((slot_kept g.slots (Some node ∷ []) (index_of p.node) found live ∙ sym live) i); port = p.port }
 
+wire_kept : (g : GraphValue) → IsGraph g → (node : Node) (wire : PortAt × PortAt) → map.get g.feeders wire.0 ≡ Some wire.1 → named_wire (with_slot g node) wire ≡ named_wire g wire
+wire_kept g ok node wire wired =
+    let ends = wire_ends g ok wire.0 wire.1 wired in
+    λ i. (port_kept g node wire.0 ends.to ends.live_to i, port_kept g node wire.1 ends.from ends.live_from i)
+
 wires_kept : (g : GraphValue) → IsGraph g → (node : Node) → list_map (named_wire (with_slot g node)) (map.entries g.feeders) ≡ list_map (named_wire g) (map.entries g.feeders)
 wires_kept g ok node =
-    same_each (named_wire (with_slot g node)) (named_wire g) (map.entries g.feeders)
-        (each_weaker
-          (λ wire. map.get g.feeders wire.0 ≡ Some wire.1)
-          (λ wire. named_wire (with_slot g node) wire ≡ named_wire g wire)
-          (λ wire wired.
-            let ends = wire_ends g ok wire.0 wire.1 wired in
-            λ i. (port_kept g node wire.0 ends.to ends.live_to i, port_kept g node wire.1 ends.from ends.live_from i))
-          (map.entries g.feeders) (each_found place_total place_same g.feeders))
+    let each = each_weaker (λ wire. map.get g.feeders wire.0 ≡ Some wire.1) (λ wire. named_wire (with_slot g node) wire ≡ named_wire g wire) (wire_kept g ok node) (map.entries g.feeders) (each_found place_total place_same g.feeders) in
+    same_each (named_wire (with_slot g node)) (named_wire g) (map.entries g.feeders) each
 
 pub by_names-with_slot : (g : GraphValue) → IsGraph g → (node : Node) → map.get (by_names g).nodes node.name ≡ None → by_names (with_slot g node) ≡ with_node (by_names g) node.name (body_of node)
 by_names-with_slot g ok node fresh =
@@ -113,11 +110,11 @@ module _ (g : GraphValue) (ok : IsGraph g) (source target : PortAt) (node : Node
   wire_back q s found =
       elim (key_cases port_total port_same q (port_named g target)) [
         | inl one ↦
-            let from : port_named g source ≡ s = same_Some (port_named g source) s (sym (insert_here port_total port_same (by_names g).feeders (port_named g target) (port_named g source))
-                ∙ ap (map.get (with_wire (by_names g) (port_named g source) (port_named g target)).feeders) (sym one.is) ∙ found) in
+            let put = insert_here port_total port_same (by_names g).feeders (port_named g target) (port_named g source) in
+            let is_from : port_named g source ≡ s = same_Some (port_named g source) s (sym put ∙ ap (map.get (with_wire (by_names g) (port_named g source) (port_named g target)).feeders) (sym one.is) ∙ found) in
             ap (map.get (by_names wired).feeders) one.is
             ∙ wire_found_alone wired target source (alone_with target node live) (insert_here place_total place_same g.feeders target source)
-            ∙ ap Some from
+            ∙ ap Some is_from
         | inr two ↦
             let wire = wire_behind g q s (sym (insert_other port_total port_same (by_names g).feeders (port_named g target) (port_named g source) q two.is_not) ∙ found) in
             let ends = wire_ends g ok wire.to wire.from wire.wired in
@@ -222,11 +219,9 @@ module _ (g : GraphValue) (ok : IsGraph g) (id : NodeId) (node : Node) (live : n
 
   stays_from : (target source : PortAt) → map.get g.feeders target ≡ Some source → index_of target.node ≢ index_of id → index_of source.node ≢ index_of id → map.get left.feeders target ≡ Some source
   stays_from target source fed to_apart from_apart =
-      kept place_total place_same g.feeders stays target
-          (neither_from (is_at id (Some target)) (is_at id (map.get g.feeders target))
-            (ne_eqb (index_of target.node) (index_of id) to_apart)
-            (ap (is_at id) fed ∙ ne_eqb (index_of source.node) (index_of id) from_apart))
-      ∙ fed
+      let not_to = ne_eqb (index_of target.node) (index_of id) to_apart in
+      let not_from = ap (is_at id) fed ∙ ne_eqb (index_of source.node) (index_of id) from_apart in
+      kept place_total place_same g.feeders stays target (neither_from (is_at id (Some target)) (is_at id (map.get g.feeders target)) not_to not_from) ∙ fed
 
   not_of : (p : PortAt) (found : Node) (q : Port) → node_at g p.node ≡ Some found → index_of p.node ≢ index_of id → port_named g p ≡ q → is_of node.name (Some q) ≡ false
   not_of p found q live_p apart is =
@@ -243,11 +238,9 @@ module _ (g : GraphValue) (ok : IsGraph g) (id : NodeId) (node : Node) (live : n
       let is_to = sym (port_left wire.to stay.to_apart) ∙ wire.is_to in
       let is_from = sym (port_left wire.from stay.from_apart) ∙ wire.is_from in
       let old = ap (map.get (by_names g).feeders) (sym is_to) ∙ wire_found g ok wire.to wire.from stay.wired ∙ ap Some is_from in
-      kept port_total port_same (by_names g).feeders stays_named q
-          (neither_from (is_of node.name (Some q)) (is_of node.name (map.get (by_names g).feeders q))
-            (not_of wire.to ends.to q ends.live_to stay.to_apart is_to)
-            (ap (is_of node.name) old ∙ not_of wire.from ends.from s ends.live_from stay.from_apart is_from))
-      ∙ old
+      let not_to = not_of wire.to ends.to q ends.live_to stay.to_apart is_to in
+      let not_from = ap (is_of node.name) old ∙ not_of wire.from ends.from s ends.live_from stay.from_apart is_from in
+      kept port_total port_same (by_names g).feeders stays_named q (neither_from (is_of node.name (Some q)) (is_of node.name (map.get (by_names g).feeders q)) not_to not_from) ∙ old
 
   alone_left : (p : PortAt) (found : Node) → node_at g p.node ≡ Some found → index_of p.node ≢ index_of id → IsInputAlone left p
   alone_left p found live_p apart q from fed is =

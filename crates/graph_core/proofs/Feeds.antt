@@ -1,5 +1,5 @@
 -- Whether an output stands on a wire.
-use Rattle.std.proofs.Common.{◌≡◌, ◌≢◌, ◌⊎◌, inl, inr, Bool, true, false, ◌&&◌, ◌||◌, ◌==◌, List, [], ◌∷◌, cond, Option, Some, None, Ordering, refl, sym, ap, ◌∙◌, true≢false}
+use Rattle.std.proofs.Common.{◌≡◌, ◌≢◌, ◌⊎◌, inl, inr, Bool, true, ◌&&◌, ◌||◌, ◌==◌, List, [], ◌∷◌, cond, Some, Ordering, refl, sym, ap, ◌∙◌, true≢false}
 use Rattle.std.specs.Ordering.{eq_by_cmp}
 use Rattle.std.specs.List.{AllByRecursion, list_any}
 use Rattle.std.specs.FinMap as map
@@ -45,9 +45,8 @@ fed_where_feeds g source test =
 
 pub feeds_where_fed : (g : GraphValue) (target source : PortAt) → map.get g.feeders target ≡ Some source → feeds g source ≡ true
 feeds_where_fed g target source wired =
-    any_from_found place_cmp (is_from source) target source
-        (λ q. and_from (index_of source.node == index_of source.node) (source.port == source.port) (eq-eqb (index_of source.node) (index_of source.node) refl) (eq-eqb source.port source.port refl))
-        (map.entries g.feeders) (sym (map.get-entries g.feeders target) ∙ wired)
+    let here = and_from (index_of source.node == index_of source.node) (source.port == source.port) (eq-eqb (index_of source.node) (index_of source.node) refl) (eq-eqb source.port source.port refl) in
+    any_from_found place_cmp (is_from source) target source (λ q. here) (map.entries g.feeders) (sym (map.get-entries g.feeders target) ∙ wired)
 
 -- an output stands on a wire, or on none
 pub feeds_cases : (g : GraphValue) (source : PortAt) → ((target : PortAt) × (map.get g.feeders target ≡ Some source)) ⊎ ((target : PortAt) → map.get g.feeders target ≢ Some source)

@@ -1,11 +1,11 @@
 -- The orders of names and ports are total, and only equal ones tie.
-use Rattle.std.proofs.Common.{◌≡◌, refl, true, Ordering, Less, Equal, Greater}
+use Rattle.std.proofs.Common.{◌≡◌, refl, Ordering, Less, Equal, Greater}
 use Rattle.std.specs.Ordering.{nat_cmp, ordering_then}
 use Rattle.std.specs.Cmp.{IsTotalOrder}
 use Rattle.std.specs.FinMap.{IsAntisymmetric, nat_cmp-IsAntisymmetric, slice_cmp-IsAntisymmetric}
 use Rattle.std.proofs.lemmas.Cmp.{nat_cmp_total, nat_list_cmp_total, on_total, then_total}
 use Rattle.graph_core.specs.declared.place.PortAt.{PortAt}
-use Rattle.graph_core.specs.Name.{Name, Port, name_cmp, port_cmp}
+use Rattle.graph_core.specs.Name.{Port, name_cmp, port_cmp}
 use Rattle.graph_core.specs.Place.{place_cmp}
 
 -- two orders in turn tie where both do
