@@ -1,3 +1,8 @@
+mod Options
+mod Each
+mod Maps
+mod NamedNodes
+mod Feeds
 pub mod Orders
 pub mod ByNames
 pub mod ByNamesAfter
