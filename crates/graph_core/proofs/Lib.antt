@@ -7,3 +7,4 @@ pub mod Orders
 pub mod ByNames
 pub mod ByNamesAfter
 pub mod TypedByNames
+pub mod CanWireByNames

@@ -17,7 +17,7 @@ use Rattle.graph_core.proofs.Feeds.{feeds_cases}
 use Rattle.graph_core.proofs.ByNames.{NodeBehind, node_found, node_behind, port_behind, same_port, wire_ends, wire_found, wire_behind, wire_none}
 
 -- the node of a port of a live node stands under its name
-node_of_port : (g : GraphValue) → IsGraph g → (p : PortAt) (q : Port) (node : Node) → node_at g p.node ≡ Some node → port_named g p ≡ q → map.get (by_names g).nodes q.node ≡ Some (body_of node)
+pub node_of_port : (g : GraphValue) → IsGraph g → (p : PortAt) (q : Port) (node : Node) → node_at g p.node ≡ Some node → port_named g p ≡ q → map.get (by_names g).nodes q.node ≡ Some (body_of node)
 node_of_port g ok p q node live is =
     ap (map.get (by_names g).nodes) (ap (λ (port : Port). port.node) (sym is) ∙ ap name_of live) ∙ node_found g ok p.node node live
 

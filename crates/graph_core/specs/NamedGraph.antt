@@ -1,5 +1,5 @@
 -- A graph by names: a set of nodes and a set of wires.
-use Rattle.std.specs.Prelude.{◌≡◌, ℕ, Bool, false, not, ◌||◌, Option, Some, None, bytes_eq}
+use Rattle.std.specs.Prelude.{◌≡◌, ◌≢◌, ℕ, Bool, false, not, ◌||◌, Option, Some, None, bytes_eq}
 use Rattle.std.specs.FinMap as map
 use Rattle.graph_core.specs.Name.{Name, Port, name_cmp, port_cmp, port_get, IsName}
 use Rattle.graph_core.specs.Kind.{Shape, ins, outs, KindOk}
@@ -42,6 +42,12 @@ pub record IsWire (g : NamedGraph) (source target : Port) : Type 0 where
   pub is_to : map.get g.nodes target.node ≡ Some to
   pub leaves : port_get (outs from.kind) source.port ≡ Some shape
   pub enters : port_get (ins to.kind) target.port ≡ Some shape
+
+-- both ports are there, with one shape, and stand on no wire
+pub record CanWire (g : NamedGraph) (source target : Port) : Type 0 where
+  pub wire : IsWire g source target
+  pub target_free : map.get g.feeders target ≡ None
+  pub source_free : (p : Port) → map.get g.feeders p ≢ Some source
 
 -- each kind meets its row, each port stands on exactly one wire, and each wire has one shape
 pub record IsTyped (g : NamedGraph) : Type 0 where
