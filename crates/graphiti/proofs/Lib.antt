@@ -1,3 +1,4 @@
 pub mod Stripping
+pub mod Lookups
 pub mod SmallLines
 pub mod OneGraph
