@@ -1,4 +1,5 @@
 pub mod Stripping
 pub mod Lookups
+pub mod Dropping
 pub mod SmallLines
 pub mod OneGraph
