@@ -1,12 +1,12 @@
 -- Dropping the Buffers in the order of their names strips the graph.
-use Rattle.std.proofs.Common.{◌≡◌}
-use Rattle.graph_core.specs.NamedGraph.{NamedGraph}
-use Rattle.graphiti.specs.Stripped.{IsOneStripped, IsStripped}
+use Rattle.std.specs.FinMap as map
+use Rattle.graphiti.specs.Stripped.{IsOneStripped}
 use Rattle.graphiti.specs.Strips.{TurnsStrip}
 use Rattle.graphiti.proofs.Lookups.{name_total, name_same, port_total, port_same, same_by}
+use Rattle.graphiti.proofs.Turning.{keys_rise, await_keys, turns_from}
 
 pub turns_strip : TurnsStrip
-turns_strip = ?
+turns_strip g h typed turns = turns_from (map.keys g.nodes) g h typed (keys_rise g.nodes) (await_keys g) turns
 
 pub one_stripped : IsOneStripped
 one_stripped g h k sh sk =
