@@ -1,15 +1,15 @@
 -- A typed graph without one of its Buffers.
-use Rattle.std.proofs.Common.{◌≡◌, ◌≢◌, ◌⊎◌, ℕ, zero, suc, Bool, true, false, cond, not, ◌||◌, inl, inr, refl, sym, ap, subst, ◌∙◌, List, [], ◌∷◌, Option, Some, None, IsSomeAnd, bytes_eq, true≢false}
+use Rattle.std.proofs.Common.{◌≡◌, ◌≢◌, ◌⊎◌, ℕ, zero, suc, Bool, true, false, cond, not, ◌||◌, inl, inr, refl, sym, ap, subst, ◌∙◌, [], ◌∷◌, Option, Some, None, IsSomeAnd, bytes_eq, true≢false}
 use Rattle.std.proofs.lemmas.Option.{none-some, same_Some}
 use Rattle.std.proofs.lemmas.Slice.Eq.{bytes_eq-Decides}
 use Rattle.std.proofs.lemmas.Bool.{false_from_ne_true}
 use Rattle.std.specs.FinMap as map
 use Rattle.graph_core.specs.declared.kind.Kind.{Kind}
-use Rattle.graph_core.specs.declared.kind.Kind.TheVariants.{Entry, Exit, Buffer, Fork}
+use Rattle.graph_core.specs.declared.kind.Kind.TheVariants.{Buffer}
 use Rattle.graph_core.specs.Name.{Name, Port, port_get}
 use Rattle.graph_core.specs.Kind.{Shape, ins, outs}
 use Rattle.graph_core.specs.Node.{Body}
-use Rattle.graph_core.specs.NamedGraph.{NamedGraph, IsTyped, IsWire, is_of, with_wire, without_node}
+use Rattle.graph_core.specs.NamedGraph.{NamedGraph, IsTyped, IsWire, is_of, without_node}
 use Rattle.graphiti.specs.Stripped.{IsBufferKind, IsBuffer, first_port}
 use Rattle.graphiti.specs.Strips.{Drops}
 use Rattle.graphiti.proofs.Lookups.{name_total, name_same, port_total, port_same, name_cases, port_cases, get_inserted, get_not_inserted, get_removed, get_not_removed, get_retained}
@@ -82,7 +82,6 @@ pub record Bypasses (g : NamedGraph) (b : Name) (h : NamedGraph) : Type 0 where
   pub fed : map.get g.feeders (first_port b) ≡ Some source
   pub feeds : map.get g.feeders target ≡ Some (first_port b)
   pub other_source : source.node ≢ b
-  pub other_target : target.node ≢ b
   pub node_gone : map.get h.nodes b ≡ None
   pub node_kept : (name : Name) → name ≢ b → map.get h.nodes name ≡ map.get g.nodes name
   pub wire_kept : (p q : Port) → p.node ≢ b → q.node ≢ b → map.get g.feeders p ≡ Some q → map.get h.feeders p ≡ Some q
@@ -164,7 +163,6 @@ module _ (g : NamedGraph) (typed : IsTyped g) (b : Name) (h : NamedGraph) (drop 
         fed = drop.fed;
         feeds = drop.feeds;
         other_source = drop.other;
-        other_target = moved_away;
         node_gone = ap (λ (z : NamedGraph). map.get z.nodes b) drop.after ∙ get_removed name_total name_same g.nodes b;
         node_kept = λ name other. ap (λ (z : NamedGraph). map.get z.nodes name) drop.after ∙ get_not_removed name_total name_same g.nodes b name other;
         wire_kept = kept;
@@ -194,8 +192,8 @@ module _ (g : NamedGraph) (typed : IsTyped g) (b : Name) (h : NamedGraph) (past 
       let same_w : w.to ≡ buffer.body = same_Some w.to buffer.body (sym w.is_to ∙ buffer.is) in
       let same_v : v.from ≡ buffer.body = same_Some v.from buffer.body (sym v.is_from ∙ buffer.is) in
       let shapes : w.shape ≡ v.shape = one_shape buffer.body.kind buffer.shape w.shape v.shape buffer.kind
-          (ap (λ (z : Body). port_get (ins z.kind) 1) (sym same_w) ∙ w.enters)
-          (ap (λ (z : Body). port_get (outs z.kind) 1) (sym same_v) ∙ v.leaves) in
+      (ap (λ (z : Body). port_get (ins z.kind) 1) (sym same_w) ∙ w.enters)
+      (ap (λ (z : Body). port_get (outs z.kind) 1) (sym same_v) ∙ v.leaves) in
       record {
         from = w.from;
         to = v.to;

@@ -180,13 +180,14 @@ module _ (g : NamedGraph) (b : Name) (h : NamedGraph) (past : Bypasses g b h) wh
     pub stripped_before : (s : NamedGraph) → IsStripped h s → IsStripped g s
     stripped_before s is =
         record {
-          nodes = λ name body.
-              (λ found. let (was, stays) = (is.nodes name body).0 found in
-                  let apart = node_other name body was in
-                  (sym (past.node_kept name apart) ∙ was, stays_before name apart stays),
-              λ has. elim (name_cases name b) [
-                | inl same ↦ absurd (goes name same has.1)
-                | inr apart ↦ (is.nodes name body).1 (past.node_kept name apart ∙ has.0, stays_after name apart has.1)
-              ]);
+          nodes = λ name body. (
+            λ found. let (was, stays) = (is.nodes name body).0 found in
+                let apart = node_other name body was in
+                (sym (past.node_kept name apart) ∙ was, stays_before name apart stays),
+            λ has. elim (name_cases name b) [
+              | inl same ↦ absurd (goes name same has.1)
+              | inr apart ↦ (is.nodes name body).1 (past.node_kept name apart ∙ has.0, stays_after name apart has.1)
+            ],
+          );
           feeders = λ p q. (λ wired. feeds_before p q ((is.feeders p q).0 wired), λ fed. (is.feeders p q).1 (feeds_after p q fed));
         }

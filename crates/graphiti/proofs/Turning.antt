@@ -1,12 +1,12 @@
 -- Each node has its turn, in the order of the names.
-use Rattle.std.proofs.Common.{◌≡◌, ◌≢◌, ◌⊎◌, inl, inr, refl, sym, ap, subst, ◌∙◌, cond, Bool, true, false, ◌&&◌, T, is_lt, List, [], ◌∷◌, map, Some, Ordering, Less, Equal, Greater}
+use Rattle.std.proofs.Common.{◌≡◌, ◌⊎◌, inl, inr, refl, sym, ap, subst, ◌∙◌, cond, Bool, true, false, ◌&&◌, T, is_lt, List, [], ◌∷◌, map, Some, Ordering, Less, Equal, Greater}
 use Rattle.std.proofs.lemmas.Option.{none-some, same_Some}
 use Rattle.std.specs.FinMap as fin
 use Rattle.std.specs.FinMap.{find, is_sorted}
 use Rattle.std.specs.FinMap.Entries.{below_all}
 use Rattle.graph_core.specs.Name.{Name, Port, name_cmp}
 use Rattle.graph_core.specs.NamedGraph.{NamedGraph, IsTyped}
-use Rattle.graphiti.specs.Stripped.{IsBuffer, first_port, Meets, Meets.feeds, IsLastOfRing, FeedsStripped, IsStripped}
+use Rattle.graphiti.specs.Stripped.{IsBuffer, first_port, Meets.feeds, IsLastOfRing, FeedsStripped, IsStripped}
 use Rattle.graphiti.specs.Strips.{StaysAtTurn, Turns}
 use Rattle.graphiti.proofs.Lookups.{name_total, name_same, name_cases, other_test}
 use Rattle.graphiti.proofs.Dropping.{Bypasses, buffer_at, buffer_cases, buffer_input, buffer_output, drops_bypasses, typed_after}
@@ -80,10 +80,14 @@ module _ (g : NamedGraph) (typed : IsTyped g) (all : (name : Name) → IsBuffer 
         | inl is ↦
             let at : p ≡ first_port p.node = buffer_input g typed p.node is p q wired refl in
             inr (itself_last p.node is, at, same_Some q p (sym wired ∙ ap (fin.get g.feeders) at ∙ all p.node is ∙ ap Some (sym at)))
-        | inr plain ↦ inl (plain, λ is.
-            let at : q ≡ first_port q.node = buffer_output g typed q.node is p q wired refl in
-            let same : p ≡ first_port q.node = typed.once p (first_port q.node) (first_port q.node) (wired ∙ ap Some at) (all q.node is) in
-            plain (subst (IsBuffer g) (sym (ap (λ (z : Port). z.node) same)) is), feeds p q wired)
+        | inr plain ↦ inl (
+          plain,
+          λ is.
+              let at : q ≡ first_port q.node = buffer_output g typed q.node is p q wired refl in
+              let same : p ≡ first_port q.node = typed.once p (first_port q.node) (first_port q.node) (wired ∙ ap Some at) (all q.node is) in
+              plain (subst (IsBuffer g) (sym (ap (λ (z : Port). z.node) same)) is),
+          feeds p q wired,
+        )
       ]
 
   reaches_wired : (p q found : Port) → ¬ (IsBuffer g p.node) → fin.get g.feeders p ≡ Some found → Reaches g found q → fin.get g.feeders p ≡ Some q
