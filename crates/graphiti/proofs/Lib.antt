@@ -1,3 +1,7 @@
 pub mod Stripping
+pub mod Lookups
+pub mod Dropping
+pub mod Meeting
+pub mod Turning
 pub mod SmallLines
 pub mod OneGraph

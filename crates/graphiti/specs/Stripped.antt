@@ -1,13 +1,12 @@
 -- A graph without its Buffers.
-use Rattle.std.specs.Prelude.{◌≡◌, ◌≢◌, ◌↔◌, ◌⊎◌, ℕ, List, [], ◌∷◌, Option, Some, None, IsSomeAnd}
-use Rattle.std.specs.declared.cmp.Ordering.{Ordering}
+use Rattle.std.specs.Prelude.{◌≡◌, ◌≢◌, ◌↔◌, ◌⊎◌, Some, IsSomeAnd}
 use Rattle.std.specs.declared.cmp.Ordering.TheVariants.{Less}
 use Rattle.std.specs.FinMap as map
 use Rattle.graph_core.specs.declared.kind.Kind.{Kind}
 use Rattle.graph_core.specs.declared.kind.Kind.TheVariants.{Buffer}
 use Rattle.graph_core.specs.Name.{Name, Port, name_cmp}
 use Rattle.graph_core.specs.Node.{Body}
-use Rattle.graph_core.specs.NamedGraph.{NamedGraph, IsTyped, with_wire, without_node}
+use Rattle.graph_core.specs.NamedGraph.{NamedGraph}
 
 abbrev pub IsBufferKind : Kind → Type 0
 IsBufferKind (Buffer shape) = Unit {0}
@@ -24,7 +23,7 @@ first_port name = record { node = name; port = 1 }
 pub data Meets (g : NamedGraph) : Port → Port → Type 0 where
   feeds : (target source : Port) → map.get g.feeders target ≡ Some source → Meets g target source
   beyond : (target source : Port) (buffer : Name) → map.get g.feeders target ≡ Some (first_port buffer) → IsBuffer g buffer →
-    Meets g (first_port buffer) source → Meets g target source
+      Meets g (first_port buffer) source → Meets g target source
 
 -- a Buffer on a ring made of Buffers alone, with the greatest name of them
 pub record IsLastOfRing (g : NamedGraph) (name : Name) : Type 0 where
