@@ -23,7 +23,7 @@ pub record IsSmallWire (target source : Port) : Type 0 where
   pub target_port : target.port ≤ 64
   pub source_port : source.port ≤ 64
 
-pub node_at-node_line : (name : Name) (body : Body) → IsSmallNode name body → (rest : List ℕ) → node_at (node_line (name, body) ++ rest) ≡ Some (name, body.kind, rest)
+pub node_at-node_line : (name : Name) (body : Body) → IsSmallNode name body → (rest : List ℕ) → node_at (node_line (name, body) ++ rest) ≡ ?
 node_at-node_line name body small rest = ?
 
 pub wire_at-wire_line : (target source : Port) → IsSmallWire target source → (rest : List ℕ) → wire_at (wire_line (target, source) ++ rest) ≡ Some (source, target, rest)
