@@ -1,3 +1,4 @@
 pub mod Stripping
+pub mod LineParts
 pub mod SmallLines
 pub mod OneGraph
