@@ -1,7 +1,11 @@
-pub mod Stripping
 pub mod Lookups
+pub mod EntryLists
+pub mod Entries
 pub mod Dropping
 pub mod Meeting
 pub mod Turning
+pub mod Stripping
+pub mod LineParts
 pub mod SmallLines
 pub mod OneGraph
+pub mod WireOrder

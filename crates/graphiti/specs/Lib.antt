@@ -4,5 +4,6 @@ pub mod Stripped
 pub mod SmallLine
 pub mod Strips
 pub mod PrintedWires
+pub mod PrintedGraph
 pub mod Status
 pub mod Answer

@@ -1,4 +1,6 @@
 //! The program `graphiti`.
 #![tactic(auto)]
 
+mod lines;
+
 fn main(_rt: HostRuntime) {}
