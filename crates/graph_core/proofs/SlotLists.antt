@@ -1,5 +1,5 @@
 -- Live nodes in a list of slots.
-use Rattle.std.proofs.Common.{◌≡◌, ◌≢◌, ℕ, zero, suc, ◌+◌, ◌<◌, ◌≤◌, List, [], ◌∷◌, ◌++◌, length, get_or, Option, Some, None, slice_get, slice_set, refl, sym, ap, ◌∙◌, arith}
+use Rattle.std.proofs.Common.{◌≡◌, ◌≢◌, ℕ, zero, suc, ◌+◌, ◌<◌, ◌≤◌, List, [], ◌∷◌, ◌++◌, length, get_or, Option, Some, None, IfSome, IfNone, slice_get, slice_set, refl, sym, ap, ◌∙◌, arith}
 use Rattle.std.proofs.lemmas.Option.{slice_get-get_or, slice_get_past}
 use Rattle.graph_core.specs.declared.node.Node.{Node}
 use Rattle.graph_core.specs.GraphValue.{flat}
@@ -27,3 +27,11 @@ pub slot_within : (slots : List (Option Node)) (i : ℕ) (node : Node) → flat 
 slot_within [] i node live = let e : ◌≡◌ {A = Option Node} None (Some node) = live in cc
 slot_within (slot ∷ slots) zero node live = omega arith
 slot_within (slot ∷ slots) (suc i) node live = omega (arith, slot_within slots i node live)
+
+pub if_some : {A : Type 0} (o : Option A) (P : A → Type 0) → ((x : A) → o ≡ Some x → P x) → IfSome o P
+if_some None P holds = tt
+if_some (Some x) P holds = holds x refl
+
+pub if_none : {A : Type 0} (o : Option A) (P : Type 0) → (o ≡ None → P) → IfNone o P
+if_none None P holds = holds refl
+if_none (Some x) P holds = tt
