@@ -2,6 +2,7 @@ pub mod Orders
 pub mod PortLists
 pub mod SlotLists
 pub mod WireLists
+pub mod Finding
 pub mod KeepsGraph
 pub mod ByNames
 pub mod ByNamesAfter
