@@ -3,6 +3,7 @@ pub mod PortLists
 pub mod SlotLists
 pub mod WireLists
 pub mod Finding
+pub mod Faults
 pub mod KeepsGraph
 pub mod ByNames
 pub mod ByNamesAfter

@@ -1,5 +1,5 @@
 -- Live nodes in a list of slots.
-use Rattle.std.proofs.Common.{◌≡◌, ◌≢◌, ℕ, zero, suc, ◌+◌, ◌<◌, ◌≤◌, List, [], ◌∷◌, ◌++◌, length, get_or, Option, Some, None, IfSome, IfNone, is_some, false, true≢false, slice_get, slice_set, refl, sym, ap, subst, ◌∙◌, arith}
+use Rattle.std.proofs.Common.{◌≡◌, ◌≢◌, ℕ, zero, suc, ◌+◌, ◌<◌, ◌≤◌, List, [], ◌∷◌, ◌++◌, length, get_or, Option, Some, None, IfSome, IfNone, is_some, true, false, true≢false, slice_get, slice_set, refl, sym, ap, subst, ◌∙◌, arith}
 use Rattle.std.proofs.lemmas.Option.{slice_get-get_or, slice_get_past}
 use Rattle.graph_core.specs.declared.node.Node.{Node}
 use Rattle.graph_core.specs.GraphValue.{flat}
@@ -47,3 +47,7 @@ at_none (Some y) P e holds = let h : ◌≡◌ {A = Option _} (Some y) None = e 
 pub none_by : {A : Type 0} (o : Option A) → is_some o ≡ false → o ≡ None
 none_by None e = refl
 none_by (Some x) e = absurd (true≢false e)
+
+pub some_by : {A : Type 0} (o : Option A) → is_some o ≡ true → (x : A) × (o ≡ Some x)
+some_by None e = absurd (true≢false (sym e))
+some_by (Some x) e = (x, refl)

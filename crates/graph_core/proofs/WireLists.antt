@@ -24,7 +24,7 @@ tied Greater e = absurd (true≢false (sym e))
 pub same_place : (p q : PortAt) → eq_by_cmp place_cmp p q ≡ true → p ≡ q
 same_place p q e = place_same p q (tied _ e)
 
-not_true : (b : Bool) → (b ≡ true → ⊥) → b ≡ false
+pub not_true : (b : Bool) → (b ≡ true → ⊥) → b ≡ false
 not_true true h = absurd (h refl)
 not_true false h = refl
 
