@@ -16,7 +16,7 @@ use Rattle.graph_core.specs.Place.{place_cmp}
 use Rattle.graph_core.specs.Kind.{Shape}
 use Rattle.graph_core.specs.GraphValue.{GraphValue, shape_at, feeds}
 use Rattle.graph_core.specs.Wiring.{wire_fault, fault_between, is_taken}
-use Rattle.graph_core.proofs.SlotLists.{same_Some}
+use Rattle.graph_core.proofs.SlotLists.{same_Some, not_None, none_by}
 use Rattle.graph_core.proofs.WireLists.{here, same_place, other_place, not_true}
 
 first : (a b : Bool) → T (a && b) → T a
@@ -103,3 +103,37 @@ module _ (g : GraphValue) (source target : PortAt) (leaving entering : Shape) (s
 
   pub fault_shape : map.get g.feeders target ≡ None → ((other : PortAt) → map.get g.feeders other ≢ Some source) → leaving ≢ entering → wire_fault g source target ≡ Some ShapeDiffers
   fault_shape into from other = free into from ∙ ap (λ b. cond b None (Some ShapeDiffers)) (not_true _ (λ e. other ((bytes_eq-Decides leaving entering).0 e)))
+
+-- what an added wire fulfils
+pub record Fitting (g : GraphValue) (source target : PortAt) : Type 0 where
+  pub shape : Shape
+  pub leaves : shape_at g Outs source ≡ Some shape
+  pub enters : shape_at g Ins target ≡ Some shape
+  pub into : map.get g.feeders target ≡ None
+  pub from : (other : PortAt) → map.get g.feeders other ≢ Some source
+
+or_false : (a b : Bool) → (a || b) ≡ false → (a ≡ false) × (b ≡ false)
+or_false true b e = absurd (true≢false e)
+or_false false b e = (refl, e)
+
+fitting_at : (g : GraphValue) (source target : PortAt) (a b : Option Shape) (taken : Bool) → shape_at g Outs source ≡ a → shape_at g Ins target ≡ b → is_taken g source target ≡ taken → fault_between a b taken ≡ None → Fitting g source target
+fitting_at g source target None b taken la lb t e = absurd (not_None e)
+fitting_at g source target (Some a) None taken la lb t e = absurd (not_None e)
+fitting_at g source target (Some a) (Some b) true la lb t e = absurd (not_None e)
+fitting_at g source target (Some a) (Some b) false la lb t e =
+    let free = or_false _ _ t in
+    let same : a ≡ b = (bytes_eq-Decides a b).0 (alike (bytes_eq a b) e) in
+    record {
+      shape = a;
+      leaves = la;
+      enters = lb ∙ ap Some (sym same);
+      into = none_by (map.get g.feeders target) free.0;
+      from = λ other h. true≢false (sym (feeds_found g source other h) ∙ free.1);
+    }
+  where
+  alike : (r : Bool) → cond r None (Some ShapeDiffers) ≡ None → r ≡ true
+  alike true h = refl
+  alike false h = absurd (not_None h)
+
+pub fitting : (g : GraphValue) (source target : PortAt) → wire_fault g source target ≡ None → Fitting g source target
+fitting g source target e = fitting_at g source target (shape_at g Outs source) (shape_at g Ins target) (is_taken g source target) refl refl refl e

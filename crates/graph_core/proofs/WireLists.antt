@@ -56,3 +56,33 @@ find_each (wire ∷ wires) (suc i) d apart h =
   where
   no_clash : (o : Option PortAt) (p : PortAt) → o ≡ None → o ≡ Some p → ⊥
   no_clash o p a b = let e : ◌≡◌ {A = Option PortAt} None (Some p) = sym a ∙ b in cc
+
+-- A wire pushed behind, and wires taken out
+
+pub feeder_list-push : (wires : List Wire) (wire : Wire) → feeder_list (wires ++ wire ∷ []) ≡ feeder_list wires ++ (wire.target, wire.source) ∷ []
+feeder_list-push wires wire = map-append (λ w. (w.target, w.source)) wires (wire ∷ [])
+
+pub AreApart-push : (es : List (PortAt × PortAt)) (target source : PortAt) → AreApart es → map.find place_cmp target es ≡ None → AreApart (es ++ (target, source) ∷ [])
+AreApart-push [] target source apart free = (refl, tt)
+AreApart-push (entry ∷ es) target source apart free = at (eq_by_cmp place_cmp target entry.0) refl
+  where
+  at : (b : Bool) → eq_by_cmp place_cmp target entry.0 ≡ b → AreApart ((entry ∷ es) ++ (target, source) ∷ [])
+  at true e = absurd (not_None (ap (λ b. cond b (Some entry.1) (map.find place_cmp target es)) (sym e) ∙ free))
+  at false e =
+      let rest : map.find place_cmp target es ≡ None = ap (λ b. cond b (Some entry.1) (map.find place_cmp target es)) (sym e) ∙ free in
+      let other : eq_by_cmp place_cmp entry.0 target ≡ false = other_place entry.0 target (λ same. true≢false (sym (here target) ∙ ap (eq_by_cmp place_cmp target) (sym same) ∙ e)) in
+      (find-append place_cmp place_total es target source entry.0 rest ∙ ap (λ b. cond b (Some source) (map.find place_cmp entry.0 es)) other ∙ apart.0, AreApart-push es target source apart.1 rest)
+
+module _ (p : Wire → Bool) where
+  pub find_none-filter : (target : PortAt) (wires : List Wire) → map.find place_cmp target (feeder_list wires) ≡ None → map.find place_cmp target (feeder_list (filter p wires)) ≡ None
+  find_none-filter target [] free = refl
+  find_none-filter target (wire ∷ wires) free = at (eq_by_cmp place_cmp target wire.target) refl (p wire) refl
+    where
+    at : (b : Bool) → eq_by_cmp place_cmp target wire.target ≡ b → (k : Bool) → p wire ≡ k → map.find place_cmp target (feeder_list (filter p (wire ∷ wires))) ≡ None
+    at true e k kept = absurd (not_None (ap (λ b. cond b (Some wire.source) (map.find place_cmp target (feeder_list wires))) (sym e) ∙ free))
+    at false e k kept =
+        let rest = find_none-filter target wires (ap (λ b. cond b (Some wire.source) (map.find place_cmp target (feeder_list wires))) (sym e) ∙ free) in
+        skipped target wire wires k kept e ∙ rest
+    skipped : (target : PortAt) (wire : Wire) (wires : List Wire) (k : Bool) → p wire ≡ k → eq_by_cmp place_cmp target wire.target ≡ false → map.find place_cmp target (feeder_list (filter p (wire ∷ wires))) ≡ map.find place_cmp target (feeder_list (filter p wires))
+    skipped target wire wires true kept e = ?
+    skipped target wire wires false kept e = ?

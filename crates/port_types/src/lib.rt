@@ -18,8 +18,8 @@ mod token;
 
 pub use items::Items;
 pub use memory::NoMemory;
-pub use port_text::{push_port, push_port_name};
+pub use port_text::push_port_name;
 pub use shape::{Shape, is_shape, same_shape};
 pub use side::Side;
 pub use text::Text;
-pub use token::{Token, fits};
+pub use token::Token;

@@ -3,7 +3,6 @@ ghost use Rattle.std.specs.Fmt.{decimal};
 ghost use Rattle.port_types.specs.PortText.{port_name, port_text, ports_text, shape_text};
 
 use crate::memory::NoMemory;
-use crate::shape::Shape;
 use crate::side::Side;
 use std::fmt::Write;
 
@@ -24,24 +23,3 @@ fn push_decimal(text: &mut String, number: u8) -> Result<(), NoMemory>
     Ok(())
 }
 
-/// Appends the text of a shape: its widths in decimal, joined by dots.
-fn push_shape(text: &mut String, widths: &[u8]) -> Result<(), NoMemory>
-    ensures { OnOk result (string_bytes text.new ≡ string_bytes text.old ++ shape_text widths.now) }
-{
-    for (index, width) in widths.iter().enumerate() {
-        if index > 0 {
-            text.push('.')?;
-        }
-        push_decimal(text, *width)?;
-    }
-    Ok(())
-}
-
-/// Appends the text of a port with its shape, as `in1:4.32`. After `NoMemory` a part of it may have been appended.
-pub fn push_port(text: &mut String, side: Side, number: u8, shape: &Shape) -> Result<(), NoMemory>
-    ensures { OnOk result (string_bytes text.new ≡ string_bytes text.old ++ port_text side number shape.now) }
-{
-    push_port_name(text, side, number)?;
-    text.push(':')?;
-    push_shape(text, shape.widths())
-}

@@ -1,8 +1,5 @@
 ghost use Rattle.std.specs.Prelude.{◌≡◌, ◌^◌, ◌<◌, ◌≤◌, ◌↔◌, IsTrue};
-ghost use Rattle.port_types.specs.Shape.{IsShape};
-ghost use Rattle.port_types.specs.Token.{Fits};
 
-use crate::shape::Shape;
 use std::marker::Model;
 
 /// A token: a list of numbers. Contracts see the list.
@@ -35,28 +32,3 @@ impl Token {
     }
 }
 
-/// Whether the token has as many numbers as the shape has widths, each below 2 to the power of its width.
-pub fn fits(shape: &Shape, token: &Token) -> bool
-    ensures { IsTrue result ↔ Fits shape.now token.now }
-{
-    fields_fit(shape.widths(), token.fields())
-}
-
-fn fields_fit(widths: &[u8], numbers: &[u64]) -> bool
-    requires { IsShape widths.now }
-    ensures { IsTrue result ↔ Fits widths.now numbers.now }
-{
-    widths.len() == numbers.len()
-        && widths
-            .iter()
-            .zip(numbers)
-            .all(|(width, number)| field_fits(*width, *number))
-}
-
-/// Whether the number is below 2 to the power of the width.
-fn field_fits(width: u8, number: u64) -> bool
-    requires { width ≤ 64 }
-    ensures { IsTrue result ↔ (number < 2 ^ width) }
-{
-    width == 64 || number >> width == 0
-}
