@@ -5,6 +5,7 @@ pub mod WireLists
 pub mod Finding
 pub mod Faults
 pub mod KeepsGraph
+pub mod Changes
 pub mod ByNames
 pub mod ByNamesAfter
 pub mod TypedByNames

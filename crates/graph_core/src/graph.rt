@@ -11,7 +11,7 @@ use crate::kind::{Kind, inputs, outputs};
 use crate::node::Node;
 use crate::place::{NodeId, PortAt};
 use crate::slots::{index_of, node_in};
-use crate::wires::{Wire, source_in, target_in};
+use crate::wires::{Wire, remove_at, source_in, target_in};
 use port_types::{NoMemory, Shape, Side, same_shape};
 use std::alloc::Global;
 use std::marker::Model;
@@ -149,7 +149,7 @@ impl Graph {
         ensures none { IfNone result (self.new ≡ self.old) }
     {
         let node = self.nodes.get_mut(id.index())?.take()?;
-        self.wires.retain(|wire| !wire.is_at(id));
+        remove_at(&mut self.wires, id);
         Some(node)
     }
 
