@@ -88,14 +88,14 @@ impl Graph {
         ensures taken { (result ≡ Err AddNode.NameTaken) ↔ IsSome (map_of.get (by_names self.old).nodes node.name) }
         ensures err { OnErr result (self.new ≡ self.old) }
     {
-        if index_of(&self.nodes, node.name.bytes()).is_some() {
+        if self.find(node.name.bytes()).is_some() {
             return Err(AddNode::NameTaken);
         }
         let id = NodeId::new(self.nodes.len());
-        match self.nodes.push(Some(node)) {
-            Ok(()) => Ok(id),
-            Err(_) => Err(AddNode::NoMemory),
+        if self.nodes.push(Some(node)).is_err() {
+            return Err(AddNode::NoMemory);
         }
+        Ok(id)
     }
 
     /// Joins an output to an input. An error leaves the graph as it was. In this order: `UnknownPort` exactly where one of the ports is not there,
@@ -107,10 +107,10 @@ impl Graph {
         ensures err { OnErr result (self.new ≡ self.old) }
     {
         self.try_wire(source, target)?;
-        match self.wires.push(Wire { source, target }) {
-            Ok(()) => Ok(()),
-            Err(_) => Err(AddWire::NoMemory),
+        if self.wires.push(Wire { source, target }).is_err() {
+            return Err(AddWire::NoMemory);
         }
+        Ok(())
     }
 
     /// Whether the ports are there, on no wire, and of one shape.
