@@ -4,6 +4,13 @@ mod Maps
 mod NamedNodes
 mod Feeds
 pub mod Orders
+pub mod PortLists
+pub mod SlotLists
+pub mod WireLists
+pub mod Finding
+pub mod Faults
+pub mod KeepsGraph
+pub mod Changes
 pub mod ByNames
 pub mod ByNamesAfter
 pub mod TypedByNames

@@ -1,14 +1,15 @@
 -- How a graph keeps its nodes and wires: a list of each.
-use Rattle.std.specs.Prelude.{◌≡◌, ℕ, refl, List, [], ◌∷◌, map, Option, Some, None, slice_get}
+use Rattle.std.specs.Prelude.{◌≡◌, ℕ, refl, Bool, ◌||◌, List, [], ◌∷◌, map, Option, Some, None, slice_get}
 use Rattle.std.specs.Coded.{Coded, code_by, coded×, coded_list, coded_option}
 use Rattle.std.specs.FinMap as map
 use Rattle.graph_core.specs.declared.node.Node.{Node}
+use Rattle.graph_core.specs.declared.place.NodeId.{NodeId}
 use Rattle.graph_core.specs.declared.place.PortAt.{PortAt}
 use Rattle.graph_core.specs.declared.wires.Wire.{Wire}
 use Rattle.graph_core.specs.contracts.node.Node as node
 use Rattle.graph_core.specs.contracts.place.PortAt as place
 use Rattle.graph_core.specs.Place.{place_cmp}
-use Rattle.graph_core.specs.GraphValue.{GraphValue, flat}
+use Rattle.graph_core.specs.GraphValue.{GraphValue, flat, is_at}
 
 -- a graph's value is stored as the pair of its fields
 abbrev pub graph_code : Coded GraphValue
@@ -32,3 +33,7 @@ AreApart (entry ∷ entries) = (map.find place_cmp entry.0 entries ≡ None) × 
 -- a live node with this name stands at this index
 abbrev pub IsNamedAt : List (Option Node) → ℕ → List ℕ → Type 0
 IsNamedAt slots index name = (node : Node) × (flat (slice_get slots index) ≡ Some node) × (node.name ≡ name)
+
+-- one of the wire's ends is a port of the node
+abbrev pub stands_at : NodeId → Wire → Bool
+stands_at id wire = is_at id (Some wire.target) || is_at id (Some wire.source)

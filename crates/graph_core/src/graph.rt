@@ -11,7 +11,7 @@ use crate::kind::{Kind, inputs, outputs};
 use crate::node::Node;
 use crate::place::{NodeId, PortAt};
 use crate::slots::{index_of, node_in};
-use crate::wires::{Wire, source_in, target_in};
+use crate::wires::{Wire, remove_at, source_in, target_in};
 use port_types::{NoMemory, Shape, Side, same_shape};
 use std::alloc::Global;
 use std::marker::Model;
@@ -88,14 +88,14 @@ impl Graph {
         ensures taken { (result ≡ Err AddNode.NameTaken) ↔ IsSome (map_of.get (by_names self.old).nodes node.name) }
         ensures err { OnErr result (self.new ≡ self.old) }
     {
-        if index_of(&self.nodes, node.name.bytes()).is_some() {
+        if self.find(node.name.bytes()).is_some() {
             return Err(AddNode::NameTaken);
         }
         let id = NodeId::new(self.nodes.len());
-        match self.nodes.push(Some(node)) {
-            Ok(()) => Ok(id),
-            Err(_) => Err(AddNode::NoMemory),
+        if self.nodes.push(Some(node)).is_err() {
+            return Err(AddNode::NoMemory);
         }
+        Ok(id)
     }
 
     /// Joins an output to an input. An error leaves the graph as it was. In this order: `UnknownPort` exactly where one of the ports is not there,
@@ -107,10 +107,10 @@ impl Graph {
         ensures err { OnErr result (self.new ≡ self.old) }
     {
         self.try_wire(source, target)?;
-        match self.wires.push(Wire { source, target }) {
-            Ok(()) => Ok(()),
-            Err(_) => Err(AddWire::NoMemory),
+        if self.wires.push(Wire { source, target }).is_err() {
+            return Err(AddWire::NoMemory);
         }
+        Ok(())
     }
 
     /// Whether the ports are there, on no wire, and of one shape.
@@ -149,7 +149,7 @@ impl Graph {
         ensures none { IfNone result (self.new ≡ self.old) }
     {
         let node = self.nodes.get_mut(id.index())?.take()?;
-        self.wires.retain(|wire| !wire.is_at(id));
+        remove_at(&mut self.wires, id);
         Some(node)
     }
 

@@ -1,4 +1,4 @@
-ghost use Rattle.std.specs.Prelude.{◌≡◌, ◌↔◌, IsTrue, IsSome, IfOk, Some, length};
+ghost use Rattle.std.specs.Prelude.{◌≡◌, ◌↔◌, IsTrue, IsSome, IfOk, Some, length, replicate};
 ghost use Rattle.std.specs.Option.{option_copied};
 ghost use Rattle.graph_core.specs.Kind.{ins, outs, ports, KindOk};
 ghost use Rattle.graph_core.specs.Name.{port_get};
@@ -27,17 +27,27 @@ impl Kind {
     pub(crate) fn shape_at(&self, side: Side, port: u8) -> Option<&Shape>
         ensures { option_copied result ≡ port_get (ports self.now side) port }
     {
-        let (shape, count) = match (self, side) {
-            (Kind::Entry(shape), Side::Outs) | (Kind::Exit(shape), Side::Ins) => (shape, 1),
-            (Kind::Buffer(shape), _) | (Kind::Fork(shape, _), Side::Ins) => (shape, 1),
-            (Kind::Fork(shape, count), Side::Outs) => (shape, *count),
-            (Kind::Entry(_), Side::Ins) | (Kind::Exit(_), Side::Outs) => return None,
-        };
-        if 1 <= port && port <= count {
-            Some(shape)
-        } else {
-            None
+        match (self, side) {
+            (Kind::Entry(shape), Side::Outs) | (Kind::Exit(shape), Side::Ins) => {
+                shape_among(shape, 1, port)
+            }
+            (Kind::Buffer(shape), _) | (Kind::Fork(shape, _), Side::Ins) => {
+                shape_among(shape, 1, port)
+            }
+            (Kind::Fork(shape, count), Side::Outs) => shape_among(shape, *count, port),
+            (Kind::Entry(_), Side::Ins) | (Kind::Exit(_), Side::Outs) => None,
         }
+    }
+}
+
+/// The shape of a port where there are `count` ports of one shape.
+fn shape_among(shape: &Shape, count: u8, port: u8) -> Option<&Shape>
+    ensures { option_copied result ≡ port_get (replicate count shape.now) port }
+{
+    if 1 <= port && port <= count {
+        Some(shape)
+    } else {
+        None
     }
 }
 

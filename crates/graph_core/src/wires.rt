@@ -1,8 +1,8 @@
 //! The wires of a graph, each with its output and its input.
-ghost use Rattle.std.specs.Prelude.{◌≡◌, ◌≢◌, Some, None, IfSome, IfNone};
+ghost use Rattle.std.specs.Prelude.{◌≡◌, ◌≢◌, Some, None, IfSome, IfNone, not, filter};
 ghost use Rattle.std.specs.FinMap as map;
 ghost use Rattle.graph_core.specs.Place.{place_cmp};
-ghost use Rattle.graph_core.specs.Inside.{feeder_list, AreApart};
+ghost use Rattle.graph_core.specs.Inside.{feeder_list, stands_at, AreApart};
 
 use crate::place::{NodeId, PortAt};
 
@@ -15,9 +15,18 @@ pub(crate) struct Wire {
 
 impl Wire {
     /// Whether one of the wire's ends is a port of the node.
-    pub(crate) fn is_at(&self, id: NodeId) -> bool {
-        self.source.node == id || self.target.node == id
+    fn is_at(&self, id: NodeId) -> bool
+        ensures { result ≡ stands_at id self.now }
+    {
+        self.target.node == id || self.source.node == id
     }
+}
+
+/// Takes out the wires at the ports of the node.
+pub(crate) fn remove_at(wires: &mut Vec<Wire>, id: NodeId)
+    ensures { wires.new.items ≡ filter (λ wire. not (stands_at id wire)) wires.old.items }
+{
+    wires.retain(|wire| !wire.is_at(id));
 }
 
 /// The output that feeds this input.

@@ -1,0 +1,15 @@
+use Rattle.std.proofs.Common.{List, ◌≡◌, ◌∙◌, [], sym, subst, ap}
+use Rattle.std.specs.FinMap as map
+use Rattle.graph_core.specs.GraphValue.{by_names, IsGraph}
+use Rattle.graph_core.specs.Inside.{value_of, feeder_list, AreApart}
+use Rattle.graph_core.specs.NamedGraph.{no_graph}
+use Rattle.graph_core.proofs.ByNamesAfter.{by_names-empty}
+use Rattle.graph_core.proofs.KeepsGraph.{IsGraph-empty}
+use Rattle.graph_core.proofs.graph.Graph.new.Goals as goal
+
+pub invariant_of-result : goal.invariant_of-result
+invariant_of-result c =
+    rw (c.new.ensures.items, c.new-2.ensures.items) (IsGraph-empty, tt)
+
+pub returns-clause-names : goal.returns-clause-names
+returns-clause-names c = rw (c.new.ensures.items, c.new-2.ensures.items) by_names-empty

@@ -1,0 +1,16 @@
+use Rattle.std.proofs.Common.{subst}
+use Rattle.graph_core.specs.Node.{NodeOk}
+use Rattle.graph_core.specs.GraphValue.{IsGraph, node_at}
+use Rattle.graph_core.proofs.SlotLists.{if_some}
+use Rattle.graph_core.proofs.ByNames.{node_found}
+use Rattle.graph_core.proofs.graph.Graph.node.Goals as goal
+
+pub returns-clause-right : goal.returns-clause-right
+returns-clause-right c =
+    let ok = subst IsGraph c.self.view_is c.self.invariant.0 in
+    if_some (node_at c.args.self.now c.args.id) NodeOk (λ node live. ok.nodes c.args.id node live)
+
+pub returns-clause-names : goal.returns-clause-names
+returns-clause-names c =
+    let ok = subst IsGraph c.self.view_is c.self.invariant.0 in
+    if_some (node_at c.args.self.now c.args.id) _ (λ node live. node_found c.args.self.now ok c.args.id node live)

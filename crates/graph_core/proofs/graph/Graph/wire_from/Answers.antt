@@ -1,0 +1,39 @@
+use Rattle.std.proofs.Common.{◌≡◌, ◌∙◌, Some, sym, ap, subst, IfSome}
+use Rattle.std.specs.FinMap as map
+use Rattle.graph_core.specs.declared.place.PortAt.{PortAt}
+use Rattle.graph_core.specs.GraphValue.{IsGraph, node_at}
+use Rattle.graph_core.specs.Place.{place_cmp}
+use Rattle.graph_core.specs.Inside.{feeder_list, AreApart}
+use Rattle.port_types.specs.declared.side.Side.TheVariants.{Ins}
+use Rattle.graph_core.proofs.SlotLists.{if_some, if_none, at_some, at_none}
+use Rattle.graph_core.proofs.ByNames.{wire_found}
+use Rattle.graph_core.proofs.Finding.{lookup_is, live_where_shaped}
+use Rattle.graph_core.proofs.graph.Graph.wire_from.Goals as goal
+
+looked_up : (c : goal.After-target_in) (target : PortAt) → map.find place_cmp target (feeder_list c.deref.result.now) ≡ map.get c.args.self.now.feeders target
+looked_up c target =
+    ap (λ wires. map.find place_cmp target (feeder_list wires)) c.deref.ensures.value
+    ∙ lookup_is c.self.inside.nodes.items c.self.inside.wires.items target ∙ ap (λ g. map.get g.feeders target) c.self.view_is
+
+fed : (c : goal.After-target_in) (target : PortAt) → c.target_in.result ≡ Some target → map.get c.args.self.now.feeders target ≡ Some c.args.source
+fed c target e =
+    let apart = subst (λ wires. AreApart (feeder_list wires)) (sym c.deref.ensures.value) c.self.invariant.1 in
+    sym (looked_up c target) ∙ at_some c.target_in.result (λ t. map.find place_cmp t (feeder_list c.deref.result.now) ≡ Some c.args.source) target e (c.target_in.ensures.fed apart)
+
+pub returns-clause-fed : goal.returns-clause-fed
+returns-clause-fed c = if_some c.target_in.result _ (fed c)
+
+pub returns-clause-none : goal.returns-clause-none
+returns-clause-none c = if_none c.target_in.result _ (λ e target wired. at_none c.target_in.result _ e c.target_in.ensures.none target (looked_up c target ∙ wired))
+
+pub returns-clause-live : goal.returns-clause-live
+returns-clause-live c =
+    let ok = subst IsGraph c.self.view_is c.self.invariant.0 in
+    if_some c.target_in.result _ (λ target e.
+        let wire = ok.wires target c.args.source (fed c target e) in
+        live_where_shaped c.args.self.now Ins target wire.0 wire.2)
+
+pub returns-clause-names : goal.returns-clause-names
+returns-clause-names c =
+    let ok = subst IsGraph c.self.view_is c.self.invariant.0 in
+    if_some c.target_in.result _ (λ target e. wire_found c.args.self.now ok target c.args.source (fed c target e))
