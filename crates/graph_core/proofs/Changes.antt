@@ -21,7 +21,7 @@ pub value_of-away : (slots : List (Option Node)) (wires : List Wire) (id : NodeI
 value_of-away slots wires id apart =
     let g = value_of slots wires in
     let same : (target : PortAt) → map.get (map.from_entries {R = place_cmp} (feeder_list (away id wires))) target ≡ map.get (without_slot g id).feeders target =
-        λ target. map.get-from_entries place_total (feeder_list (away id wires)) target ∙ find-filter id target wires apart
-            ∙ ap (λ o. cond (stays_if id target o) o None) (sym (map.get-from_entries place_total (feeder_list wires) target)) ∙ sym (get-without_slot g id target) in
+    λ target. map.get-from_entries place_total (feeder_list (away id wires)) target ∙ find-filter id target wires apart
+    ∙ ap (λ o. cond (stays_if id target o) o None) (sym (map.get-from_entries place_total (feeder_list wires) target)) ∙ sym (get-without_slot g id target) in
     let feeders = map.same_map place_total place_same _ _ same in
     λ i. record { slots = slice_set slots id.index None; feeders = feeders i }

@@ -1,9 +1,9 @@
-ghost use Rattle.std.specs.Prelude.{◌≡◌, ◌≢◌, ◌↔◌, ◌⊎◌, [], ◌∷◌, length, map, Some, None, Ok, Err, IsTrue, IsSome, IsNone, IsOk, IfSome, IfNone, IfOk, IfErr, OnOk, OnErr, OnSome, is_some, MatchResult};
+ghost use Rattle.std.specs.Prelude.{◌≡◌, ◌≢◌, ◌↔◌, ◌⊎◌, [], ◌∷◌, length, map, Some, None, Ok, Err, IsTrue, IsSome, IsNone, IsOk, IfSome, IfNone, IfOk, IfErr, OnOk, OnErr, OnSome, IsOkUnless, is_some, MatchResult};
 ghost use Rattle.std.specs.Option.{option_copied, option_map};
 ghost use Rattle.std.specs.FinMap as map_of;
 ghost use Rattle.graph_core.specs.Name.{IsName};
 ghost use Rattle.graph_core.specs.Node.{NodeOk, body_of};
-ghost use Rattle.graph_core.specs.NamedGraph.{IsTyped, no_graph, with_node, with_wire, without_node};
+ghost use Rattle.graph_core.specs.NamedGraph.{CanWire, IsTyped, no_graph, with_node, with_wire, without_node};
 ghost use Rattle.graph_core.specs.GraphValue.{by_names, node_at, named, next_id, port_named, shape_at, HasName, with_slot, with_feeder, without_slot};
 ghost use Rattle.graph_core.specs.Wiring.{wire_fault, IsWireFault, IsFirstOpen};
 
@@ -104,8 +104,15 @@ impl Graph {
         ensures ok { OnOk result (self.new ≡ with_feeder self.old source target) }
         ensures names { OnOk result (by_names self.new ≡ with_wire (by_names self.old) (port_named self.old source) (port_named self.old target)) }
         ensures fault { MatchResult result (λ _. wire_fault self.old source target ≡ None) (IsWireFault (wire_fault self.old source target)) }
+
+        // By names: the wire could be added where it was, and is added where it can be.
+        ensures could { OnOk result (CanWire (by_names self.old) (port_named self.old source) (port_named self.old target)) }
+        ensures can { IsSome (node_at self.old source.node) → IsSome (node_at self.old target.node)
+            → CanWire (by_names self.old) (port_named self.old source) (port_named self.old target) → IsOkUnless result AddWire.NoMemory }
+
         ensures err { OnErr result (self.new ≡ self.old) }
     {
+        let _ = &self.wires;
         self.try_wire(source, target)?;
         if self.wires.push(Wire { source, target }).is_err() {
             return Err(AddWire::NoMemory);

@@ -10,6 +10,8 @@ use Rattle.graph_core.proofs.WireLists.{feeder_list-push, AreApart-push}
 use Rattle.graph_core.proofs.KeepsGraph.{IsGraph-with_feeder}
 use Rattle.graph_core.proofs.Changes.{value_of-push_wire}
 use Rattle.graph_core.proofs.ByNamesAfter.{by_names-with_feeder}
+use Rattle.graph_core.proofs.Options.{none_some, some_there}
+use Rattle.graph_core.proofs.CanWireByNames.{can_wire_where_fits, fits_where_can_wire}
 use Rattle.graph_core.proofs.graph.Graph.add_wire.Goals as goal
 use Rattle.graph_core.proofs.graph.Graph.add_wire.Goals.{Else-is_err}
 
@@ -42,3 +44,14 @@ pub returns-clause-names : goal.returns-clause-names
 returns-clause-names c =
     let ok = subst IsGraph c.self.view_is c.self.invariant.0 in
     ap by_names (value_is c) ∙ by_names-with_feeder c.args.self.now ok c.args.source c.args.target c.in_ok-try_wire.ensures
+
+pub returns-clause-could : goal.returns-clause-could
+returns-clause-could c = can_wire_where_fits c.args.self.now (subst IsGraph c.self.view_is c.self.invariant.0) c.args.source c.args.target c.in_ok-try_wire.ensures
+
+-- a wire that can be added meets no fault
+pub returns-in_err-try_wire-clause-can : goal.returns-in_err-try_wire-clause-can
+returns-in_err-try_wire-clause-can c from to can =
+    let ok = subst IsGraph c.self.view_is c.self.invariant.0 in
+    let source = some_there _ from in
+    let target = some_there _ to in
+    absurd (none_some _ (fits_where_can_wire c.args.self.now ok c.args.source c.args.target source.0 target.0 source.1 target.1 can) c.in_err-try_wire.ensures)
