@@ -1,4 +1,5 @@
 pub mod Stripping
 pub mod LineParts
 pub mod SmallLines
+pub mod SmallEntries
 pub mod OneGraph
