@@ -7,9 +7,9 @@ use Rattle.graph_core.specs.Name.{Name, Port}
 use Rattle.graph_core.specs.Node.{Body}
 use Rattle.graph_core.specs.NamedGraph.{NamedGraph}
 use Rattle.graphiti.specs.CanonicalText.{node_line, wire_line, text_of}
-use Rattle.graphiti.specs.SmallText.{IsSmallTextOf, NamesOneGraph}
+use Rattle.graphiti.specs.SmallText.{NamesOneGraph}
 use Rattle.graphiti.specs.SmallLine.{kind_of, node_at, wire_at}
-use Rattle.graphiti.proofs.SmallLines.{IsSmallNode, IsSmallWire, ReadsNode, node_at-node_line, wire_at-wire_line, node_at-wire_line, node_at-end, wire_at-end}
+use Rattle.graphiti.proofs.SmallLines.{IsSmallNode, IsSmallWire, node_at-node_line, wire_at-wire_line, node_at-wire_line, node_at-end, wire_at-end}
 use Rattle.graphiti.proofs.SmallEntries.{small_nodes, small_wires}
 
 -- ---- lists of lines
@@ -20,7 +20,7 @@ record AreLines {A : Type 0} (line : A → List ℕ) (IsItem : A → Type 0) (En
   stops : (a : A) (r : List ℕ) → IsItem a → Ends (line a ++ r) → ⊥
 
 same_lines : {A : Type 0} (line : A → List ℕ) (IsItem : A → Type 0) (Ends : List ℕ → Type 0) → AreLines line IsItem Ends → (xs ys : List A) (r s : List ℕ) →
-  AllByRecursion IsItem xs → AllByRecursion IsItem ys → Ends r → Ends s → flat_map line xs ++ r ≡ flat_map line ys ++ s → (xs ≡ ys) × (r ≡ s)
+    AllByRecursion IsItem xs → AllByRecursion IsItem ys → Ends r → Ends s → flat_map line xs ++ r ≡ flat_map line ys ++ s → (xs ≡ ys) × (r ≡ s)
 same_lines line IsItem Ends lines [] [] r s p q u v e = (refl, e)
 same_lines line IsItem Ends lines [] (y ∷ ys) r s p q u v e =
     absurd (lines.stops y (flat_map line ys ++ s) q.0 (subst Ends (e ∙ append_assoc (line y) (flat_map line ys) s) u))
@@ -101,7 +101,7 @@ node_at-wires_text (wire ∷ wires) small =
     ap node_at (append_assoc (wire_line (wire.0, wire.1)) (flat_map wire_line wires) (codes "}\n")) ∙ node_at-wire_line wire.0 wire.1 small.0 (wires_text wires)
 
 same_entries : (ns ms : List (Name × Body)) (ws vs : List (Port × Port)) → AllByRecursion IsNode ns → AllByRecursion IsNode ms → AllByRecursion IsWireEntry ws → AllByRecursion IsWireEntry vs →
-  flat_map node_line ns ++ wires_text ws ≡ flat_map node_line ms ++ wires_text vs → (ns ≡ ms) × (ws ≡ vs)
+    flat_map node_line ns ++ wires_text ws ≡ flat_map node_line ms ++ wires_text vs → (ns ≡ ms) × (ws ≡ vs)
 same_entries ns ms ws vs n m w v e =
     let nodes = same_lines node_line IsNode NoNode node_lines ns ms (wires_text ws) (wires_text vs) n m (node_at-wires_text ws w) (node_at-wires_text vs v) e in
     let wires = same_lines wire_line IsWireEntry NoWire wire_lines ws vs (codes "}\n") (codes "}\n") w v wire_at-end wire_at-end nodes.1 in

@@ -1,7 +1,7 @@
 -- Each entry of a small graph's nodes is a small node, and each of its feeders a small wire.
-use Rattle.std.proofs.Common.{◌≡◌, ◌≤◌, ◌+◌, ℕ, zero, suc, Bool, true, false, cond, ◌&&◌, T, List, [], ◌∷◌, length, replicate, Option, Some, None, refl, sym, ap, ap₂, ◌∙◌, subst, Ordering, Less, Equal, Greater, is_lt, is_eq, nat_cmp, arith}
-use Rattle.std.specs.Ordering.{ordering_reverse, ordering_then, eq_by_cmp}
-use Rattle.std.specs.Cmp.{IsTotalOrder, then_flip}
+use Rattle.std.proofs.Common.{◌≡◌, ◌≤◌, ℕ, zero, suc, Bool, true, false, ◌&&◌, T, List, [], ◌∷◌, length, Some, refl, ap, ap₂, ◌∙◌, Ordering, Less, Equal, Greater, is_lt, is_eq, nat_cmp, arith}
+use Rattle.std.specs.Ordering.{ordering_reverse, ordering_then}
+use Rattle.std.specs.Cmp.{then_flip}
 use Rattle.std.specs.FinMap as map
 use Rattle.std.specs.FinMap.Entries.{find, below_all, is_sorted}
 use Rattle.std.specs.List.{AllByRecursion}
@@ -9,9 +9,8 @@ use Rattle.std.proofs.lemmas.Cmp.{nat_cmp_total, nat_list_cmp_total}
 use Rattle.std.proofs.lemmas.List.{length-replicate}
 use Rattle.graph_core.specs.declared.kind.Kind.{Kind}
 use Rattle.graph_core.specs.declared.kind.Kind.TheVariants.{Entry, Exit, Buffer, Fork}
-use Rattle.graph_core.specs.Name.{Name, Port, IsName, name_cmp, port_cmp, port_get}
-use Rattle.graph_core.specs.Kind.{Shape, ins, outs, KindOk}
-use Rattle.graph_core.specs.Node.{Body}
+use Rattle.graph_core.specs.Name.{Port, name_cmp, port_cmp, port_get}
+use Rattle.graph_core.specs.Kind.{ins, outs, KindOk}
 use Rattle.graph_core.specs.NamedGraph.{NamedGraph, IsWire}
 use Rattle.graphiti.specs.SmallText.{IsSmall}
 use Rattle.graphiti.proofs.SmallLines.{IsSmallNode, IsSmallWire}
