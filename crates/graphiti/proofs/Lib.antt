@@ -7,5 +7,6 @@ pub mod Turning
 pub mod Stripping
 pub mod LineParts
 pub mod SmallLines
+pub mod SmallEntries
 pub mod OneGraph
 pub mod WireOrder

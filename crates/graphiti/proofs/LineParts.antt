@@ -1,5 +1,5 @@
 -- The parts of a line are read back, whatever follows.
-use Rattle.std.proofs.Common.{◌≡◌, ◌≢◌, ◌⊎◌, inl, inr, ℕ, zero, suc, ◌+◌, ◌-◌, ◌*◌, ◌/◌, ◌%◌, ◌^◌, ◌<◌, ◌≤◌, Bool, true, false, cond, not, ◌&&◌, ◌==◌, List, [], ◌∷◌, ◌++◌, length, take, drop, replicate, Option, Some, None, All, codes, decimal, count_by, refl, sym, ap, ◌∙◌, append_assoc, length-append, add-one, arith}
+use Rattle.std.proofs.Common.{◌≡◌, ◌≢◌, ◌⊎◌, inl, inr, ℕ, zero, suc, ◌+◌, ◌-◌, ◌*◌, ◌/◌, ◌%◌, ◌^◌, ◌<◌, ◌≤◌, true, cond, not, ◌==◌, List, [], ◌∷◌, ◌++◌, length, drop, replicate, Some, codes, decimal, count_by, refl, ap, ◌∙◌, length-append, add-one, arith}
 use Rattle.std.specs.List.{AllByRecursion, list_all, prefix_len, join_with_byte}
 use Rattle.std.proofs.lemmas.Bool.{ne_eqb, eqb-false, lt-ltb, le-leb, and_from, and_parts, not-true, cases_lt}
 use Rattle.std.proofs.lemmas.Fmt.{decimal_digit, decimal_step}
@@ -11,7 +11,7 @@ use Rattle.port_types.specs.declared.side.Side.TheVariants.{Outs}
 use Rattle.port_types.specs.PortText.{port_text, port_texts_from, ports_text}
 use Rattle.graph_core.specs.Name.{Name, IsName, IsNameByte}
 use Rattle.graphiti.specs.CanonicalText.{escaped, is_digit}
-use Rattle.graphiti.specs.SmallLine.{◌>>=◌, literal_at, until_quote, number_of, number_at, outputs_at}
+use Rattle.graphiti.specs.SmallLine.{literal_at, until_quote, number_of, number_at, outputs_at}
 
 -- ---- literals
 
@@ -54,9 +54,9 @@ decimal_two n few =
     elim (cases_lt n 10) [
       | inl one ↦ inl (one, decimal_digit n one)
       | inr more ↦
-        let front : n / 10 < 10 = omega arith in
-        let fits : n < 2 ^ 64 = omega arith in
-        inr (front, decimal_step n more fits ∙ ap (λ (t : List ℕ). t ++ (48 + n % 10) ∷ []) (decimal_digit (n / 10) front))
+          let front : n / 10 < 10 = omega arith in
+          let fits : n < 2 ^ 64 = omega arith in
+          inr (front, decimal_step n more fits ∙ ap (λ (t : List ℕ). t ++ (48 + n % 10) ∷ []) (decimal_digit (n / 10) front))
     ]
 
 is_digit-add : (d : ℕ) → d < 10 → is_digit (48 + d) ≡ true
@@ -66,12 +66,12 @@ number_of-decimal : (n : ℕ) → n < 100 → number_of (decimal n) ≡ Some n
 number_of-decimal n few =
     elim (decimal_two n few) [
       | inl one ↦
-        let same : 48 + n - 48 ≡ n = omega arith in
-        rw (one.1, is_digit-add n one.0, same) refl
+          let same : 48 + n - 48 ≡ n = omega arith in
+          rw (one.1, is_digit-add n one.0, same) refl
       | inr two ↦
-        let last : n % 10 < 10 = omega arith in
-        let same : (48 + n / 10 - 48) * 10 + (48 + n % 10 - 48) ≡ n = omega arith in
-        rw (two.1, is_digit-add (n / 10) two.0, is_digit-add (n % 10) last, same) refl
+          let last : n % 10 < 10 = omega arith in
+          let same : (48 + n / 10 - 48) * 10 + (48 + n % 10 - 48) ≡ n = omega arith in
+          rw (two.1, is_digit-add (n / 10) two.0, is_digit-add (n % 10) last, same) refl
     ]
 
 -- no byte is a double quote or a blank
@@ -156,7 +156,7 @@ fork_spaces number width (suc count) n w =
     ∙ rw (first, sum_by-cons (λ byte. cond (byte == 32) 1 0) 32 others, rest) (omega arith)
 
 pub outputs_at-append : (width count : ℕ) (rest : List ℕ) → 1 ≤ count → count ≤ 64 → width < 100 →
-  outputs_at (codes ", out = \"" ++ (ports_text Outs (replicate count (width ∷ [])) ++ 34 ∷ rest)) ≡ Some (count, rest)
+    outputs_at (codes ", out = \"" ++ (ports_text Outs (replicate count (width ∷ [])) ++ 34 ∷ rest)) ≡ Some (count, rest)
 unfolding outputs_at
 outputs_at-append width zero rest some few w = absurd (omega arith)
 outputs_at-append width (suc count) rest some few w =

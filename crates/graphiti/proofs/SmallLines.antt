@@ -1,5 +1,5 @@
 -- The lines of a small text are read back, whatever follows.
-use Rattle.std.proofs.Common.{◌≡◌, ◌≤◌, ◌<◌, ℕ, suc, zero, length, replicate, List, [], ◌∷◌, ◌++◌, Option, Some, None, codes, decimal, refl, sym, ap, ◌∙◌, append_assoc, arith}
+use Rattle.std.proofs.Common.{◌≡◌, ◌≤◌, ◌<◌, ℕ, suc, zero, replicate, List, [], ◌∷◌, ◌++◌, Option, Some, None, codes, decimal, refl, sym, ap, ◌∙◌, append_assoc, arith}
 use Rattle.std.specs.FinMap as map
 use Rattle.std.proofs.lemmas.Fmt.{decimal_digit}
 use Rattle.std.proofs.lemmas.List.{nil_from_length}
@@ -11,7 +11,7 @@ use Rattle.port_types.specs.Shape.{IsShape}
 use Rattle.graph_core.specs.declared.kind.Kind.{Kind}
 use Rattle.graph_core.specs.declared.kind.Kind.TheVariants as kinds
 use Rattle.graph_core.specs.Name.{Name, Port, IsName, name_cmp}
-use Rattle.graph_core.specs.Kind.{Shape, KindOk}
+use Rattle.graph_core.specs.Kind.{KindOk}
 use Rattle.graph_core.specs.Node.{Body}
 use Rattle.graphiti.specs.declared.lines.SmallKind.{SmallKind}
 use Rattle.graphiti.specs.declared.lines.SmallKind.TheVariants.{Entry, Exit, Buffer, Fork}
@@ -41,11 +41,11 @@ regroup_node a q n b t m k r e rest = simp append_assoc
 
 -- the line, where what stands behind the type is known
 node_line_is : (name : Name) (body : Body) (word tail rest : List ℕ) → escaped name ≡ name → join_pairs (pairs_of body) ≡ plain_pair (codes "type") word ++ tail →
-  node_line (name, body) ++ rest ≡ codes "  \"" ++ (name ++ 34 ∷ (codes " [type = \"" ++ (word ++ 34 ∷ (tail ++ (codes "];\n" ++ rest)))))
+    node_line (name, body) ++ rest ≡ codes "  \"" ++ (name ++ 34 ∷ (codes " [type = \"" ++ (word ++ 34 ∷ (tail ++ (codes "];\n" ++ rest)))))
 node_line_is name body word tail rest n p = rw (n, p) (regroup_node (codes "  ") (codes "\"") name (codes " [") (codes "type") (codes " = \"") word tail (codes "];\n") rest)
 
 node_at-parts : (name word after rest : List ℕ) (small : SmallKind) → HasNoQuote name → HasNoQuote word → kind_at word after ≡ Some (small, codes "];\n" ++ rest) →
-  node_at (codes "  \"" ++ (name ++ 34 ∷ (codes " [type = \"" ++ (word ++ 34 ∷ after)))) ≡ Some (name, small, rest)
+    node_at (codes "  \"" ++ (name ++ 34 ∷ (codes " [type = \"" ++ (word ++ 34 ∷ after)))) ≡ Some (name, small, rest)
 unfolding node_at
 node_at-parts name word after rest small n w reads =
     let kind = codes " [type = \"" ++ (word ++ 34 ∷ after) in
@@ -107,7 +107,7 @@ abbrev pub ReadsNode : Name → Body → List ℕ → Type 0
 ReadsNode name body rest = (small : SmallKind) × (kind_of small ≡ body.kind) × (node_at (node_line (name, body) ++ rest) ≡ Some (name, small, rest))
 
 reads_node : (name : Name) (body : Body) (word tail rest : List ℕ) (small : SmallKind) → HasNoQuote name → HasNoQuote word → join_pairs (pairs_of body) ≡ plain_pair (codes "type") word ++ tail →
-  kind_at word (tail ++ (codes "];\n" ++ rest)) ≡ Some (small, codes "];\n" ++ rest) → node_at (node_line (name, body) ++ rest) ≡ Some (name, small, rest)
+    kind_at word (tail ++ (codes "];\n" ++ rest)) ≡ Some (small, codes "];\n" ++ rest) → node_at (node_line (name, body) ++ rest) ≡ Some (name, small, rest)
 reads_node name body word tail rest small n w pairs reads =
     ap node_at (node_line_is name body word tail rest (escaped-same name n) pairs) ∙ node_at-parts name word (tail ++ (codes "];\n" ++ rest)) rest small n w reads
 
@@ -147,7 +147,7 @@ node_at-node_line name body small rest =
 -- ---- a wire
 
 wire_at-parts : (source target rest : List ℕ) (output input : ℕ) → HasNoQuote source → HasNoQuote target → output < 100 → input < 100 →
-  wire_at (codes "  \"" ++ (source ++ 34 ∷ (codes " -> \"" ++ (target ++ 34 ∷ (codes " [from = \"out" ++ (decimal output ++ 34 ∷ (codes ", to = \"in" ++ (decimal input ++ 34 ∷ (codes "];\n" ++ rest))))))))) ≡ Some (record { node = source; port = output }, record { node = target; port = input }, rest)
+    wire_at (codes "  \"" ++ (source ++ 34 ∷ (codes " -> \"" ++ (target ++ 34 ∷ (codes " [from = \"out" ++ (decimal output ++ 34 ∷ (codes ", to = \"in" ++ (decimal input ++ 34 ∷ (codes "];\n" ++ rest))))))))) ≡ Some (record { node = source; port = output }, record { node = target; port = input }, rest)
 unfolding wire_at
 wire_at-parts source target rest output input s t o i =
     let end = codes "];\n" ++ rest in
@@ -157,12 +157,12 @@ wire_at-parts source target rest output input s t o i =
     rw (literal_at-append (codes "  \"") (source ++ 34 ∷ arrow), until_quote-append source arrow s, literal_at-append (codes " -> \"") (target ++ 34 ∷ from), until_quote-append target from t, number_at-append (codes " [from = \"out") to output o, number_at-append (codes ", to = \"in") end input i, literal_at-append (codes "];\n") rest) refl
 
 regroup_wire : (a q s b t c f m o v d g i w e rest : List ℕ) →
-  a ++ (q ++ s ++ q) ++ b ++ (q ++ t ++ q) ++ c ++ (f ++ m ++ (o ++ v) ++ q) ++ d ++ (g ++ m ++ (i ++ w) ++ q) ++ e ++ rest ≡
+    a ++ (q ++ s ++ q) ++ b ++ (q ++ t ++ q) ++ c ++ (f ++ m ++ (o ++ v) ++ q) ++ d ++ (g ++ m ++ (i ++ w) ++ q) ++ e ++ rest ≡
     a ++ (q ++ (s ++ (q ++ (b ++ (q ++ (t ++ (q ++ (c ++ (f ++ (m ++ (o ++ (v ++ (q ++ (d ++ (g ++ (m ++ (i ++ (w ++ (q ++ (e ++ rest))))))))))))))))))))
 regroup_wire a q s b t c f m o v d g i w e rest = simp append_assoc
 
 wire_line_is : (source target rest : List ℕ) (output input : ℕ) → escaped source ≡ source → escaped target ≡ target →
-  wire_line (record { node = target; port = input }, record { node = source; port = output }) ++ rest ≡
+    wire_line (record { node = target; port = input }, record { node = source; port = output }) ++ rest ≡
     codes "  \"" ++ (source ++ 34 ∷ (codes " -> \"" ++ (target ++ 34 ∷ (codes " [from = \"out" ++ (decimal output ++ 34 ∷ (codes ", to = \"in" ++ (decimal input ++ 34 ∷ (codes "];\n" ++ rest))))))))
 wire_line_is source target rest output input s t =
     rw (s, t) (regroup_wire (codes "  ") (codes "\"") source (codes " -> ") target (codes " [") (codes "from") (codes " = \"") (codes "out") (decimal output) (codes ", ") (codes "to") (codes "in") (decimal input) (codes "];\n") rest)
