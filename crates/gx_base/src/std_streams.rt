@@ -45,10 +45,12 @@ impl<R: Read> Source for StdSource<R> {
         ensures within { IfOk result (λ k. k ≤ length buf.new) }
         ensures fault { OnErr result (Rose self.old.faults self.new.faults) }
 
-        ensures count { self.new.faults ≡ (if is_ok result then self.old.faults else raised self.old.faults) }
+        ensures count { self.new.faults ≡
+            (if is_ok result then self.old.faults else raised self.old.faults) }
 
         // Where the reader tells its bytes, these are the next of them.
-        ensures consumed { ReadConsumes (R.remaining self.old.stream) (R.remaining self.new.stream) result buf.new }
+        ensures consumed { ReadConsumes (R.remaining self.old.stream) (R.remaining self.new.stream)
+            result buf.new }
     {
         match self.reader.read(buf) {
             Ok(count) => Ok(count),
@@ -98,10 +100,12 @@ impl<W: Write> Sink for StdSink<W> {
         ensures within { IfOk result (λ k. k ≤ length piece.now) }
         ensures fault { OnErr result (Rose self.old.faults self.new.faults) }
 
-        ensures count { self.new.faults ≡ (if is_ok result then self.old.faults else raised self.old.faults) }
+        ensures count { self.new.faults ≡
+            (if is_ok result then self.old.faults else raised self.old.faults) }
 
         // Where the writer tells its bytes, these are the last of them.
-        ensures appended { IfOk result (λ k. Appends (W.contents self.old.stream) (W.contents self.new.stream) (take k piece.now)) }
+        ensures appended { IfOk result (λ k.
+            Appends (W.contents self.old.stream) (W.contents self.new.stream) (take k piece.now)) }
     {
         match write_through(&mut self.writer, piece) {
             Ok(count) => Ok(count),
@@ -117,7 +121,8 @@ impl<W: Write> Sink for StdSink<W> {
 fn write_through<W: Write>(writer: &mut W, piece: &[u8]) -> Result<usize, Failed>
     ensures some { IfOk result (λ k. 1 ≤ k) }
     ensures within { IfOk result (λ k. k ≤ length piece.now) }
-    ensures appended { IfOk result (λ k. Appends (W.contents writer.old) (W.contents writer.new) (take k piece.now)) }
+    ensures appended { IfOk result (λ k.
+        Appends (W.contents writer.old) (W.contents writer.new) (take k piece.now)) }
 {
     match writer.write(piece) {
         Ok(0) | Err(_) => Err(Failed),
