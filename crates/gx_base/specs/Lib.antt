@@ -2,3 +2,4 @@ pub mod Stream
 pub mod CleanSource
 pub mod MemSource
 pub mod MemSink
+pub mod StdStreams

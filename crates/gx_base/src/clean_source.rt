@@ -48,12 +48,16 @@ impl Source for CleanSource {
         requires one_piece { length buf.old ≤ 4096 }
 
         ensures within { IfOk result (λ k. k ≤ length buf.new) }
-        ensures given { IfOk result (λ k. Some self.old.left ≡ before (take k buf.new) (Some self.new.left)) }
-        ensures ended { IfOk result (λ k. k ≡ 0 → IfSome (Some self.old.left) (λ bytes. bytes ≡ [])) }
+        ensures given { IfOk result (λ k.
+            Some self.old.left ≡ before (take k buf.new) (Some self.new.left)) }
+        ensures ended { IfOk result (λ k.
+            k ≡ 0 → IfSome (Some self.old.left) (λ bytes. bytes ≡ [])) }
 
         ensures never_fails { IsOk result }
-        ensures count { IfOk result (λ k. k ≡ min self.old.piece (min (length buf.new) (length self.old.left))) }
-        ensures after { IfOk result (λ k. self.new ≡ record self.old { left = drop k self.old.left }) }
+        ensures count { IfOk result (λ k.
+            k ≡ min self.old.piece (min (length buf.new) (length self.old.left))) }
+        ensures after { IfOk result (λ k.
+            self.new ≡ record self.old { left = drop k self.old.left }) }
     {
         let given = give(&self.bytes[self.at..], self.piece, buf);
         self.at += given;

@@ -1,5 +1,5 @@
 //! Bytes in and out, with a count of faults: the sources that a program reads and the sinks that it
-//! writes, in memory or over a real stream, and how a whole stream is read and a whole text written.
+//! writes, in memory or over a real stream, and how a whole stream is read and a text written.
 #![tactic(auto)]
 
 mod calls;

@@ -31,14 +31,22 @@ impl Model for MemSink {
 
     ghost Value = { SinkState };
 
-    ghost view = { λ s. record { taken = s.bytes.items; piece = s.piece; room = s.room; failing = s.failing.items; calls = s.calls; faults = s.faults } };
+    ghost view = { λ s. record {
+      taken = s.bytes.items;
+      piece = s.piece;
+      room = s.room;
+      failing = s.failing.items;
+      calls = s.calls;
+      faults = s.faults;
+    } };
 
-    ghost invariant = { λ s. (length s.bytes.items ≤ s.room) × (s.room ≤ vec_capacity s.bytes) × (1 ≤ s.piece) };
+    ghost invariant = { λ s.
+        (length s.bytes.items ≤ s.room) × (s.room ≤ vec_capacity s.bytes) × (1 ≤ s.piece) };
 }
 
 impl MemSink {
-    /// A sink that takes at most `piece` bytes at a call, and `room` in all. It takes the memory for
-    /// them now, and none later: `SinkNoMemory` says that there was not enough.
+    /// A sink that takes at most `piece` bytes at a call, and `room` in all. It takes the memory
+    /// for them now, and none later: `SinkNoMemory` says that there was not enough.
     pub fn new(
         alloc: Global,
         piece: usize,
@@ -46,7 +54,14 @@ impl MemSink {
         failing: Vec<u64>,
     ) -> Result<MemSink, SinkNoMemory>
         requires { 1 ≤ piece }
-        ensures made { IfOk result (λ sink. sink ≡ record { taken = []; piece = piece; room = room; failing = failing.items; calls = 0; faults = 0 }) }
+        ensures made { IfOk result (λ sink. sink ≡ record {
+          taken = [];
+          piece = piece;
+          room = room;
+          failing = failing.items;
+          calls = 0;
+          faults = 0;
+        }) }
         ensures no_room_needed { room ≡ 0 → IsOk result }
     {
         match Vec::with_capacity(alloc, room) {
@@ -82,15 +97,24 @@ impl Sink for MemSink {
         ensures never_falls { self.old.faults ≤ self.new.faults }
         ensures some { IfOk result (λ k. 1 ≤ k) }
         ensures within { IfOk result (λ k. k ≤ length piece.now) }
-        ensures given { IfOk result (λ k. Some self.new.taken ≡ after (Some self.old.taken) (take k piece.now)) }
+        ensures given { IfOk result (λ k.
+            Some self.new.taken ≡ after (Some self.old.taken) (take k piece.now)) }
         ensures kept { OnErr result (Some self.new.taken ≡ Some self.old.taken) }
         ensures fault { OnErr result (Rose self.old.faults self.new.faults) }
 
-        ensures failed { IsErr result ↔ (NextFails self.old.calls self.old.failing ⊎ (self.old.room ≤ length self.old.taken)) }
-        ensures count { IfOk result (λ k. k ≡ min self.old.piece (min (length piece.now) (self.old.room - length self.old.taken))) }
+        ensures failed { IsErr result ↔
+            (NextFails self.old.calls self.old.failing ⊎ (self.old.room ≤ length self.old.taken)) }
+        ensures count { IfOk result (λ k. k ≡
+            min self.old.piece (min (length piece.now) (self.old.room - length self.old.taken))) }
         ensures after { MatchResult result
-            (λ k. self.new ≡ record self.old { taken = self.old.taken ++ take k piece.now; calls = raised self.old.calls })
-            (λ _. self.new ≡ record self.old { calls = raised self.old.calls; faults = raised self.old.faults }) }
+            (λ k. self.new ≡ record self.old {
+              taken = self.old.taken ++ take k piece.now;
+              calls = raised self.old.calls;
+            })
+            (λ _. self.new ≡ record self.old {
+              calls = raised self.old.calls;
+              faults = raised self.old.faults;
+            }) }
     {
         let fails = next_fails(&mut self.calls, &self.failing);
         let left = self.room - self.bytes.len();

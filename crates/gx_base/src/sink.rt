@@ -20,7 +20,8 @@ pub trait Sink {
         ensures never_falls { faults self.old ≤ faults self.new }
         ensures some { IfOk result (λ k. 1 ≤ k) }
         ensures within { IfOk result (λ k. k ≤ length piece.now) }
-        ensures given { IfOk result (λ k. taken self.new ≡ after (taken self.old) (take k piece.now)) }
+        ensures given { IfOk result (λ k.
+            taken self.new ≡ after (taken self.old) (take k piece.now)) }
         ensures kept { OnErr result (taken self.new ≡ taken self.old) }
         ensures fault { OnErr result (Rose (faults self.old) (faults self.new)) };
 }

@@ -1,5 +1,6 @@
 //! Sources and sinks over std's readers and writers.
-ghost use Rattle.std.specs.Prelude.{◌≡◌, ◌<◌, ◌≤◌, None, length, IfOk, OnErr, MatchResult};
+ghost use Rattle.std.specs.Prelude.{◌≡◌, ◌<◌, ◌≤◌, None, take, length, IfOk, OnErr, is_ok, if◌then◌else◌};
+ghost use Rattle.std.specs.Io.KnownBytes.{Appends, ReadConsumes};
 ghost use Rattle.gx_base.specs.Stream.{raised, Rose};
 
 use crate::sink::Sink;
@@ -15,18 +16,17 @@ pub struct StdSource<R> {
 }
 
 impl<R> Model for StdSource<R> {
-    ghost use Rattle.std.specs.Prelude.{ℕ};
+    ghost use Rattle.gx_base.specs.StdStreams.{Counted};
 
-    // the count of faults
-    ghost Value = { ℕ };
+    ghost Value = { Counted R };
 
-    ghost view = { λ s. s.faults };
+    ghost view = { λ s. record { stream = s.reader; faults = s.faults } };
 }
 
 impl<R: Read> StdSource<R> {
     /// A source over this reader, which has not failed yet.
     pub fn new(reader: R) -> StdSource<R>
-        ensures { result ≡ 0 }
+        ensures { result ≡ record { stream = reader; faults = 0 } }
     {
         StdSource { reader, faults: 0 }
     }
@@ -35,17 +35,22 @@ impl<R: Read> StdSource<R> {
 impl<R: Read> Source for StdSource<R> {
     ghost left = { λ _. None };
 
-    ghost faults = { λ count. count };
+    ghost faults = { λ s. s.faults };
 
     fn read(&mut self, buf: &mut [u8]) -> Result<usize, Failed>
         requires some_room { 0 < length buf.old }
         requires one_piece { length buf.old ≤ 4096 }
 
-        ensures never_falls { self.old ≤ self.new }
+        ensures never_falls { self.old.faults ≤ self.new.faults }
         ensures within { IfOk result (λ k. k ≤ length buf.new) }
-        ensures fault { OnErr result (Rose self.old self.new) }
+        ensures fault { OnErr result (Rose self.old.faults self.new.faults) }
 
-        ensures count { MatchResult result (λ _. self.new ≡ self.old) (λ _. self.new ≡ raised self.old) }
+        ensures count { self.new.faults ≡
+            (if is_ok result then self.old.faults else raised self.old.faults) }
+
+        // Where the reader tells its bytes, these are the next of them.
+        ensures consumed { ReadConsumes (R.remaining self.old.stream) (R.remaining self.new.stream)
+            result buf.new }
     {
         match self.reader.read(buf) {
             Ok(count) => Ok(count),
@@ -66,18 +71,17 @@ pub struct StdSink<W> {
 }
 
 impl<W> Model for StdSink<W> {
-    ghost use Rattle.std.specs.Prelude.{ℕ};
+    ghost use Rattle.gx_base.specs.StdStreams.{Counted};
 
-    // the count of faults
-    ghost Value = { ℕ };
+    ghost Value = { Counted W };
 
-    ghost view = { λ s. s.faults };
+    ghost view = { λ s. record { stream = s.writer; faults = s.faults } };
 }
 
 impl<W: Write> StdSink<W> {
     /// A sink over this writer, which has not failed yet.
     pub fn new(writer: W) -> StdSink<W>
-        ensures { result ≡ 0 }
+        ensures { result ≡ record { stream = writer; faults = 0 } }
     {
         StdSink { writer, faults: 0 }
     }
@@ -86,17 +90,22 @@ impl<W: Write> StdSink<W> {
 impl<W: Write> Sink for StdSink<W> {
     ghost taken = { λ _. None };
 
-    ghost faults = { λ count. count };
+    ghost faults = { λ s. s.faults };
 
     fn write(&mut self, piece: &[u8]) -> Result<usize, Failed>
         requires { 0 < length piece.now }
 
-        ensures never_falls { self.old ≤ self.new }
+        ensures never_falls { self.old.faults ≤ self.new.faults }
         ensures some { IfOk result (λ k. 1 ≤ k) }
         ensures within { IfOk result (λ k. k ≤ length piece.now) }
-        ensures fault { OnErr result (Rose self.old self.new) }
+        ensures fault { OnErr result (Rose self.old.faults self.new.faults) }
 
-        ensures count { MatchResult result (λ _. self.new ≡ self.old) (λ _. self.new ≡ raised self.old) }
+        ensures count { self.new.faults ≡
+            (if is_ok result then self.old.faults else raised self.old.faults) }
+
+        // Where the writer tells its bytes, these are the last of them.
+        ensures appended { IfOk result (λ k.
+            Appends (W.contents self.old.stream) (W.contents self.new.stream) (take k piece.now)) }
     {
         match write_through(&mut self.writer, piece) {
             Ok(count) => Ok(count),
@@ -110,7 +119,10 @@ impl<W: Write> Sink for StdSink<W> {
 
 // Writes some of the piece past each buffer, and says how many bytes: one at least.
 fn write_through<W: Write>(writer: &mut W, piece: &[u8]) -> Result<usize, Failed>
-    ensures { IfOk result (λ k. (1 ≤ k) × (k ≤ length piece.now)) }
+    ensures some { IfOk result (λ k. 1 ≤ k) }
+    ensures within { IfOk result (λ k. k ≤ length piece.now) }
+    ensures appended { IfOk result (λ k.
+        Appends (W.contents writer.old) (W.contents writer.new) (take k piece.now)) }
 {
     match writer.write(piece) {
         Ok(0) | Err(_) => Err(Failed),

@@ -115,8 +115,8 @@ fn one_byte_too_many_is_too_long(rt: HostRuntime) -> Result<(), Fail> {
     Ok(())
 }
 
-// A piece, the room, the call that fails, what a write of the whole text answers, and how many bytes
-// the sink has then.
+// A piece, the room, the call that fails, what a write of the whole text answers, and how many
+// bytes the sink has then.
 const WRITES: [(usize, usize, u64, Result<(), usize>, usize); 7] = [
     (10, 20, 0, Ok(()), 20),
     (10, 20, 1, Err(0), 0),

@@ -1,5 +1,5 @@
 //! A whole stream read, and a whole text written.
-ghost use Rattle.std.specs.Prelude.{◌≡◌, ◌↔◌, ◌⊎◌, ◌+◌, ◌-◌, ◌^◌, ◌<◌, ◌≤◌, [], true, false, Some, take, drop, length, IsOk, IfOk, OnOk, IfErr, IfSome, IsErrOf, MatchResult};
+ghost use Rattle.std.specs.Prelude.{◌≡◌, ◌+◌, ◌-◌, ◌^◌, ◌<◌, ◌≤◌, [], true, false, Some, take, drop, length, IfOk, OnOk, IfErr, IfSome, IsErrOf};
 ghost use Rattle.gx_base.specs.Stream.{before, after, Gave, Rose};
 
 use crate::sink::Sink;
@@ -30,10 +30,14 @@ pub fn read_all<S: Source>(alloc: Global, src: &mut S, max: usize) -> Result<Vec
     ensures given { IfOk result (λ bytes. S.left src.old ≡ before bytes.items (S.left src.new)) }
     ensures ended { OnOk result (IfSome (S.left src.new) (λ rest. rest ≡ [])) }
     ensures within { IfOk result (λ bytes. length bytes.items ≤ max) }
-    ensures too_long { IsErrOf result ReadAllFault.TooLong → Gave (λ count. count ≡ max + 1) (S.left src.old) (S.left src.new) }
-    ensures read_fault { IsErrOf result ReadAllFault.ReadFault → Gave (λ count. count ≤ max) (S.left src.old) (S.left src.new) }
-    ensures no_memory { IsErrOf result ReadAllFault.NoMemory → Gave (λ count. (0 < count) × (count ≤ max)) (S.left src.old) (S.left src.new) }
-    ensures fault { IsErrOf result ReadAllFault.ReadFault → Rose (S.faults src.old) (S.faults src.new) }
+    ensures too_long { IsErrOf result ReadAllFault.TooLong →
+        Gave (λ count. count ≡ max + 1) (S.left src.old) (S.left src.new) }
+    ensures read_fault { IsErrOf result ReadAllFault.ReadFault →
+        Gave (λ count. count ≤ max) (S.left src.old) (S.left src.new) }
+    ensures no_memory { IsErrOf result ReadAllFault.NoMemory →
+        Gave (λ count. (0 < count) × (count ≤ max)) (S.left src.old) (S.left src.new) }
+    ensures fault { IsErrOf result ReadAllFault.ReadFault →
+        Rose (S.faults src.old) (S.faults src.new) }
 
     // Where the source tells its bytes, these are all of them, and none are left.
     ensures whole { IfOk result (λ bytes. IfSome (S.left src.old) (λ all.
@@ -63,15 +67,22 @@ fn read_piece<S: Source>(
 
     ensures never_falls { S.faults src.old ≤ S.faults src.new }
 
-    ensures given { OnOk result (before bytes.old.items (S.left src.old) ≡ before bytes.new.items (S.left src.new)) }
+    ensures given { OnOk result
+        (before bytes.old.items (S.left src.old) ≡ before bytes.new.items (S.left src.new)) }
     ensures within { OnOk result (length bytes.new.items ≤ max) }
-    ensures longer { IfOk result (λ more. more ≡ true → length bytes.old.items < length bytes.new.items) }
-    ensures ended { IfOk result (λ more. more ≡ false → IfSome (S.left src.new) (λ rest. rest ≡ [])) }
+    ensures longer { IfOk result (λ more.
+        more ≡ true → length bytes.old.items < length bytes.new.items) }
+    ensures ended { IfOk result (λ more.
+        more ≡ false → IfSome (S.left src.new) (λ rest. rest ≡ [])) }
 
-    ensures too_long { IsErrOf result ReadAllFault.TooLong → Gave (λ count. count ≡ max + 1) (before bytes.old.items (S.left src.old)) (S.left src.new) }
-    ensures read_fault { IsErrOf result ReadAllFault.ReadFault → Gave (λ count. count ≤ max) (before bytes.old.items (S.left src.old)) (S.left src.new) }
-    ensures no_memory { IsErrOf result ReadAllFault.NoMemory → Gave (λ count. (0 < count) × (count ≤ max)) (before bytes.old.items (S.left src.old)) (S.left src.new) }
-    ensures fault { IsErrOf result ReadAllFault.ReadFault → Rose (S.faults src.old) (S.faults src.new) }
+    ensures too_long { IsErrOf result ReadAllFault.TooLong → Gave (λ count. count ≡ max + 1)
+        (before bytes.old.items (S.left src.old)) (S.left src.new) }
+    ensures read_fault { IsErrOf result ReadAllFault.ReadFault → Gave (λ count. count ≤ max)
+        (before bytes.old.items (S.left src.old)) (S.left src.new) }
+    ensures no_memory { IsErrOf result ReadAllFault.NoMemory → Gave (λ count. (0 < count) × (count ≤ max))
+        (before bytes.old.items (S.left src.old)) (S.left src.new) }
+    ensures fault { IsErrOf result ReadAllFault.ReadFault →
+        Rose (S.faults src.old) (S.faults src.new) }
 {
     let room = max - bytes.len();
     let asked = buf.len().min(room + 1);
@@ -97,7 +108,8 @@ pub fn write_all<O: Sink>(out: &mut O, bytes: &[u8]) -> Result<(), usize>
     ensures never_falls { O.faults out.old ≤ O.faults out.new }
 
     ensures all_taken { OnOk result (O.taken out.new ≡ after (O.taken out.old) bytes.now) }
-    ensures front_taken { IfErr result (λ n. O.taken out.new ≡ after (O.taken out.old) (take n bytes.now)) }
+    ensures front_taken { IfErr result (λ n.
+        O.taken out.new ≡ after (O.taken out.old) (take n bytes.now)) }
     ensures some_left { IfErr result (λ n. n < length bytes.now) }
     ensures fault { IfErr result (λ _. Rose (O.faults out.old) (O.faults out.new)) }
 
