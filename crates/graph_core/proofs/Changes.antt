@@ -1,15 +1,19 @@
 -- The lists of nodes and wires after a change stand for the changed graph.
-use Rattle.std.proofs.Common.{◌≡◌, ◌≢◌, ℕ, Bool, true, false, cond, List, [], ◌∷◌, ◌++◌, Option, Some, None, slice_set, refl, sym, ap, subst, ◌∙◌}
+use Rattle.std.proofs.Common.{◌≡◌, ◌≢◌, ℕ, Bool, true, false, cond, not, ◌||◌, List, [], ◌∷◌, ◌++◌, Option, Some, None, IsSome, is_some, slice_get, slice_set, refl, sym, ap, subst, ◌∙◌, true≢false}
+use Rattle.std.proofs.lemmas.Bool.{eqb-true}
 use Rattle.std.specs.FinMap as map
+use Rattle.port_types.specs.declared.side.Side.TheVariants.{Ins, Outs}
 use Rattle.graph_core.specs.declared.node.Node.{Node}
 use Rattle.graph_core.specs.declared.place.NodeId.{NodeId}
 use Rattle.graph_core.specs.declared.place.PortAt.{PortAt}
 use Rattle.graph_core.specs.declared.wires.Wire.{Wire}
 use Rattle.graph_core.specs.Place.{place_cmp, index_of}
-use Rattle.graph_core.specs.GraphValue.{GraphValue, IsGraph, HasName, with_slot, with_feeder, without_slot}
+use Rattle.graph_core.specs.GraphValue.{GraphValue, IsGraph, flat, node_at, is_at, with_slot, with_feeder, without_slot}
 use Rattle.graph_core.specs.Inside.{value_of, feeder_list, AreApart, IsNamedAt}
+use Rattle.graph_core.proofs.SlotLists.{emptied_dead}
+use Rattle.graph_core.proofs.Finding.{live_where_shaped}
 use Rattle.graph_core.proofs.Orders.{place_total, place_same}
-use Rattle.graph_core.proofs.WireLists.{away, stays_if, feeder_list-push, find-filter}
+use Rattle.graph_core.proofs.WireLists.{away, stays_if, feeder_list-push, find-filter, not_true}
 use Rattle.graph_core.proofs.KeepsGraph.{stays, get-without_slot}
 
 pub value_of-push_wire : (slots : List (Option Node)) (wires : List Wire) (wire : Wire) → map.find place_cmp wire.target (feeder_list wires) ≡ None → value_of slots (wires ++ wire ∷ []) ≡ with_feeder (value_of slots wires) wire.source wire.target
@@ -25,3 +29,29 @@ value_of-away slots wires id apart =
     ∙ ap (λ o. cond (stays_if id target o) o None) (sym (map.get-from_entries place_total (feeder_list wires) target)) ∙ sym (get-without_slot g id target) in
     let feeders = map.same_map place_total place_same _ _ same in
     λ i. record { slots = slice_set slots id.index None; feeders = feeders i }
+
+-- To take out an id at which no node lives changes nothing
+
+not_here : (g : GraphValue) (id : NodeId) (p : PortAt) → node_at g id ≡ None → IsSome (node_at g p.node) → is_at id (Some p) ≡ false
+not_here g id p dead live = not_true _ (λ e. true≢false (sym live ∙ ap is_some (ap (λ i. flat (slice_get g.slots i)) (eqb-true _ _ e) ∙ dead)))
+
+neither : (a b : Bool) → a ≡ false → b ≡ false → not (a || b) ≡ true
+neither a b e f = λ i. not (e i || f i)
+
+pub without_slot-dead : (g : GraphValue) → IsGraph g → (id : NodeId) → node_at g id ≡ None → without_slot g id ≡ g
+without_slot-dead g ok id dead =
+    let slots = emptied_dead g.slots id.index dead in
+    let feeders = map.same_map place_total place_same (without_slot g id).feeders g.feeders (λ target. get-without_slot g id target ∙ same target (map.get g.feeders target) refl) in
+    λ i. record { slots = slots i; feeders = feeders i }
+  where
+  same : (target : PortAt) (o : Option PortAt) → map.get g.feeders target ≡ o → cond (stays g id target) (map.get g.feeders target) None ≡ map.get g.feeders target
+  same target None e = ap (λ o. cond (stays g id target) o None) e ∙ either (stays g id target) ∙ sym e
+    where
+    either : (b : Bool) → ◌≡◌ {A = Option PortAt} (cond b None None) None
+    either true = refl
+    either false = refl
+  same target (Some source) e =
+      let wire = ok.wires target source e in
+      let target_away = not_here g id target dead (live_where_shaped g Ins target wire.0 wire.2) in
+      let source_away = not_here g id source dead (live_where_shaped g Outs source wire.0 wire.1) in
+      ap (λ b. cond b (map.get g.feeders target) None) (neither _ _ target_away (ap (is_at id) e ∙ source_away))

@@ -94,3 +94,8 @@ emptied_old (slot ∷ slots) zero zero found live = let e : ◌≡◌ {A = Optio
 emptied_old (slot ∷ slots) zero (suc j) found live = live
 emptied_old (slot ∷ slots) (suc i) zero found live = live
 emptied_old (slot ∷ slots) (suc i) (suc j) found live = emptied_old slots i j found live
+
+pub emptied_dead : (slots : List (Option Node)) (i : ℕ) → flat (slice_get slots i) ≡ None → slice_set slots i None ≡ slots
+emptied_dead [] i dead = refl
+emptied_dead (slot ∷ slots) zero dead = ap (λ s. s ∷ slots) (sym dead)
+emptied_dead (slot ∷ slots) (suc i) dead = ap (λ s. slot ∷ s) (emptied_dead slots i dead)

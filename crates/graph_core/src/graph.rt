@@ -10,7 +10,7 @@ ghost use Rattle.graph_core.specs.Wiring.{wire_fault, IsWireFault, IsFirstOpen};
 use crate::kind::{Kind, inputs, outputs};
 use crate::node::Node;
 use crate::place::{NodeId, PortAt};
-use crate::slots::{index_of, node_in};
+use crate::slots::{index_of, node_in, take_at};
 use crate::wires::{Wire, remove_at, source_in, target_in};
 use port_types::{NoMemory, Shape, Side, same_shape};
 use std::alloc::Global;
@@ -155,9 +155,9 @@ impl Graph {
         ensures names { IfSome result (λ node. by_names self.new ≡ without_node (by_names self.old) node.name) }
         ensures none { IfNone result (self.new ≡ self.old) }
     {
-        let node = self.nodes.get_mut(id.index())?.take()?;
+        let node = take_at(&mut self.nodes, id.index());
         remove_at(&mut self.wires, id);
-        Some(node)
+        node
     }
 
     /// The live node of this id. `None` exactly where there is none.
