@@ -10,3 +10,6 @@ pub mod SmallLines
 pub mod SmallEntries
 pub mod OneGraph
 pub mod WireOrder
+pub mod Names
+pub mod Pairs
+pub mod Ports
