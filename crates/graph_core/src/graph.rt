@@ -10,7 +10,7 @@ ghost use Rattle.graph_core.specs.Wiring.{wire_fault, IsWireFault, IsFirstOpen};
 use crate::kind::{Kind, inputs, outputs};
 use crate::node::Node;
 use crate::place::{NodeId, PortAt};
-use crate::slots::{index_of, node_in, take_at};
+use crate::slots::{ids_by_name, index_of, node_in, take_at};
 use crate::wires::{Wire, remove_at, source_in, target_in};
 use port_types::{NoMemory, Shape, Side, same_shape};
 use std::alloc::Global;
@@ -194,14 +194,7 @@ impl Graph {
     pub fn by_name(&self, alloc: Global) -> Result<Vec<NodeId>, NoMemory>
         ensures { IfOk result (λ ids. map (λ id. option_map named (node_at self.now id)) ids.items ≡ map Some (map_of.entries (by_names self.now).nodes)) }
     {
-        let mut named = Vec::with_capacity(alloc, self.nodes.len())?;
-        for (index, slot) in self.nodes.iter().enumerate() {
-            if let Some(node) = slot {
-                named.push((node.name.bytes(), NodeId::new(index)))?;
-            }
-        }
-        named.sort()?;
-        Ok(named.iter().map(|entry| entry.1).collect(alloc)?)
+        ids_by_name(alloc, &self.nodes)
     }
 }
 
