@@ -67,12 +67,12 @@ any_free source [] sorted free = refl
 any_free source (entry ∷ es) sorted free =
     let not_here : is_from source entry ≡ false = not_true _ (λ e. free entry.0 (ap (λ b. cond b (Some entry.1) (map.find place_cmp entry.0 es)) (here entry.0) ∙ ap Some (is_from_true source entry e))) in
     ap (λ b. b || list_any (is_from source) es) not_here ∙ any_free source es (second _ _ sorted) (λ target found.
-        free target (later target found (eq_by_cmp place_cmp target entry.0) refl))
+    free target (later target found (eq_by_cmp place_cmp target entry.0) refl))
   where
-  later : (target : PortAt) → map.find place_cmp target es ≡ Some source → (b : Bool) → eq_by_cmp place_cmp target entry.0 ≡ b → map.find place_cmp target (entry ∷ es) ≡ Some source
-  later target found true e =
-      let h : ◌≡◌ {A = Option PortAt} None (Some source) = sym (missing entry.0 es (first _ _ sorted)) ∙ ap (λ p. map.find place_cmp p es) (sym (same_place target entry.0 e)) ∙ found in cc
-  later target found false e = ap (λ b. cond b (Some entry.1) (map.find place_cmp target es)) e ∙ found
+    later : (target : PortAt) → map.find place_cmp target es ≡ Some source → (b : Bool) → eq_by_cmp place_cmp target entry.0 ≡ b → map.find place_cmp target (entry ∷ es) ≡ Some source
+    later target found true e =
+        let h : ◌≡◌ {A = Option PortAt} None (Some source) = sym (missing entry.0 es (first _ _ sorted)) ∙ ap (λ p. map.find place_cmp p es) (sym (same_place target entry.0 e)) ∙ found in cc
+    later target found false e = ap (λ b. cond b (Some entry.1) (map.find place_cmp target es)) e ∙ found
 
 pub feeds_found : (g : GraphValue) (source target : PortAt) → map.get g.feeders target ≡ Some source → feeds g source ≡ true
 feeds_found g source target e = any_found source target (map.entries g.feeders) (sym (map.get-entries g.feeders target) ∙ e)
@@ -131,9 +131,9 @@ fitting_at g source target (Some a) (Some b) false la lb t e =
       from = λ other h. true≢false (sym (feeds_found g source other h) ∙ free.1);
     }
   where
-  alike : (r : Bool) → cond r None (Some ShapeDiffers) ≡ None → r ≡ true
-  alike true h = refl
-  alike false h = absurd (not_None h)
+    alike : (r : Bool) → cond r None (Some ShapeDiffers) ≡ None → r ≡ true
+    alike true h = refl
+    alike false h = absurd (not_None h)
 
 pub fitting : (g : GraphValue) (source target : PortAt) → wire_fault g source target ≡ None → Fitting g source target
 fitting g source target e = fitting_at g source target (shape_at g Outs source) (shape_at g Ins target) (is_taken g source target) refl refl refl e

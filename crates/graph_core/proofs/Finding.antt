@@ -28,23 +28,23 @@ name_is_key g ok name (Some id) (node, live, is_name) none =
     sym (ap is_some found)
 name_is_key g ok name None found none = no_key (map.get (by_names g).nodes name) refl
   where
-  no_key : (o : Option Body) → map.get (by_names g).nodes name ≡ o → false ≡ is_some o
-  no_key None e = refl
-  no_key (Some body) e = let behind = node_behind g name body e in absurd (none behind.id (behind.node, behind.live, behind.is_name))
+    no_key : (o : Option Body) → map.get (by_names g).nodes name ≡ o → false ≡ is_some o
+    no_key None e = refl
+    no_key (Some body) e = let behind = node_behind g name body e in absurd (none behind.id (behind.node, behind.live, behind.is_name))
 
 -- a port with a shape is one of a live node
 pub live_where_shaped : (g : GraphValue) (side : Side) (p : PortAt) (shape : Shape) → shape_at g side p ≡ Some shape → IsSome (node_at g p.node)
 live_where_shaped g side p shape shaped = at (node_at g p.node) refl
   where
-  at : (o : Option Node) → node_at g p.node ≡ o → IsSome o
-  at (Some node) e = refl
-  at None e = let h : ◌≡◌ {A = Option Shape} None (Some shape) = subst (λ o. shape_of o side p.port ≡ Some shape) e shaped in cc
+    at : (o : Option Node) → node_at g p.node ≡ o → IsSome o
+    at (Some node) e = refl
+    at None e = let h : ◌≡◌ {A = Option Shape} None (Some shape) = subst (λ o. shape_of o side p.port ≡ Some shape) e shaped in cc
 
 -- what feeds an input, by names
 pub feeder_named : (g : GraphValue) → IsGraph g → (target : PortAt) → IsSome (node_at g target.node) → (o : Option PortAt) → o ≡ map.get g.feeders target → option_map (port_named g) o ≡ map.get (by_names g).feeders (port_named g target)
 feeder_named g ok target live (Some source) e = sym (wire_found g ok target source (sym e))
 feeder_named g ok target live None e = sym (at (node_at g target.node) refl live)
   where
-  at : (o : Option Node) → node_at g target.node ≡ o → IsSome o → map.get (by_names g).feeders (port_named g target) ≡ None
-  at (Some node) is some = wire_none g ok target node is (sym e)
-  at None is some = absurd (true≢false (sym some))
+    at : (o : Option Node) → node_at g target.node ≡ o → IsSome o → map.get (by_names g).feeders (port_named g target) ≡ None
+    at (Some node) is some = wire_none g ok target node is (sym e)
+    at None is some = absurd (true≢false (sym some))

@@ -44,14 +44,14 @@ Matches-insert slots name id body is [] (e ∷ es) m = absurd m
 Matches-insert slots name id body is (x ∷ xs) [] m = absurd m
 Matches-insert slots name id body is (x ∷ xs) (e ∷ es) m =
     subst (λ o. Matches slots (match_ordering o ((name, id) ∷ x ∷ xs) ((x.0, id) ∷ xs) (x ∷ insert_entry ref_cmp xs name id)) (put name_cmp name.now body (e ∷ es)))
-        (ap (name_cmp name.now) (sym m.0))
-        (at (Matches-insert slots name id body is xs es m.2) (name_cmp name.now e.0) refl)
+    (ap (name_cmp name.now) (sym m.0))
+    (at (Matches-insert slots name id body is xs es m.2) (name_cmp name.now e.0) refl)
   where
-  at : Matches slots (insert_entry ref_cmp xs name id) (put name_cmp name.now body es) → (o : Ordering) → name_cmp name.now e.0 ≡ o
-      → Matches slots (match_ordering o ((name, id) ∷ x ∷ xs) ((x.0, id) ∷ xs) (x ∷ insert_entry ref_cmp xs name id)) (by_order o ((name.now, body) ∷ e ∷ es) ((e.0, body) ∷ es) (e ∷ put name_cmp name.now body es))
-  at more Less is_less = (refl, is, m)
-  at more Equal is_equal = (m.0, is ∙ ap (λ n. Some (n, body)) (name_same name.now e.0 is_equal), m.2)
-  at more Greater is_greater = (m.0, m.1, more)
+    at : Matches slots (insert_entry ref_cmp xs name id) (put name_cmp name.now body es) → (o : Ordering) → name_cmp name.now e.0 ≡ o
+        → Matches slots (match_ordering o ((name, id) ∷ x ∷ xs) ((x.0, id) ∷ xs) (x ∷ insert_entry ref_cmp xs name id)) (by_order o ((name.now, body) ∷ e ∷ es) ((e.0, body) ∷ es) (e ∷ put name_cmp name.now body es))
+    at more Less is_less = (refl, is, m)
+    at more Equal is_equal = (m.0, is ∙ ap (λ n. Some (n, body)) (name_same name.now e.0 is_equal), m.2)
+    at more Greater is_greater = (m.0, m.1, more)
 
 -- the entries of the slots so far, and the next
 
@@ -87,19 +87,19 @@ found_before [] (suc i) name body e = absurd (not_None (sym e))
 found_before (None ∷ slots) (suc i) name body e = later (found_before slots i name body e)
 found_before (Some node ∷ slots) (suc i) name body e = at (found_before slots i name body) (eq_by_cmp name_cmp name node.name) refl
   where
-  at : (map.find name_cmp name (named_nodes (take i slots)) ≡ Some body → Before slots i name) → (b : Bool) → eq_by_cmp name_cmp name node.name ≡ b → Before (Some node ∷ slots) (suc i) name
-  at rest true is = record { index = 0; below = omega arith; has = (node, refl, sym (name_same name node.name (tied _ is))) }
-  at rest false is = later (rest (ap (λ b. cond b (Some (body_of node)) (map.find name_cmp name (named_nodes (take i slots)))) (sym is) ∙ e))
+    at : (map.find name_cmp name (named_nodes (take i slots)) ≡ Some body → Before slots i name) → (b : Bool) → eq_by_cmp name_cmp name node.name ≡ b → Before (Some node ∷ slots) (suc i) name
+    at rest true is = record { index = 0; below = omega arith; has = (node, refl, sym (name_same name node.name (tied _ is))) }
+    at rest false is = later (rest (ap (λ b. cond b (Some (body_of node)) (map.find name_cmp name (named_nodes (take i slots)))) (sym is) ∙ e))
 
 fresh : (slots : List (Option Node)) (i : ℕ) (node : Node) → AreNamedApart slots → flat (slice_get slots i) ≡ Some node → map.find name_cmp node.name (named_nodes (take i slots)) ≡ None
 fresh slots i node apart live = at (map.find name_cmp node.name (named_nodes (take i slots))) refl
   where
-  at : (o : Option Body) → map.find name_cmp node.name (named_nodes (take i slots)) ≡ o → o ≡ None
-  at None e = refl
-  at (Some body) e =
-      let before = found_before slots i node.name body e in
-      let same : before.index ≡ i = apart before.index i node.name before.has (node, live, refl) in
-      absurd (omega (arith, before.below, same))
+    at : (o : Option Body) → map.find name_cmp node.name (named_nodes (take i slots)) ≡ o → o ≡ None
+    at None e = refl
+    at (Some body) e =
+        let before = found_before slots i node.name body e in
+        let same : before.index ≡ i = apart before.index i node.name before.has (node, live, refl) in
+        absurd (omega (arith, before.below, same))
 
 abbrev pub so_far : List (Option Node) → ℕ → List (Name × Body)
 so_far slots i = map.entries (map.from_entries {R = name_cmp} (named_nodes (take i slots)))

@@ -35,9 +35,9 @@ IsGraph-empty =
 shape_kept : (g h : GraphValue) (side : Side) (p : PortAt) (shape : Shape) → ((node : Node) → node_at g p.node ≡ Some node → node_at h p.node ≡ Some node) → shape_at g side p ≡ Some shape → shape_at h side p ≡ Some shape
 shape_kept g h side p shape stays shaped = at (node_at g p.node) refl
   where
-  at : (o : Option Node) → node_at g p.node ≡ o → shape_at h side p ≡ Some shape
-  at None e = absurd (not_None (sym shaped ∙ ap (λ o. shape_of o side p.port) e))
-  at (Some node) e = ap (λ o. shape_of o side p.port) (stays node e) ∙ ap (λ o. shape_of o side p.port) (sym e) ∙ shaped
+    at : (o : Option Node) → node_at g p.node ≡ o → shape_at h side p ≡ Some shape
+    at None e = absurd (not_None (sym shaped ∙ ap (λ o. shape_of o side p.port) e))
+    at (Some node) e = ap (λ o. shape_of o side p.port) (stays node e) ∙ ap (λ o. shape_of o side p.port) (sym e) ∙ shaped
 
 pub IsGraph-with_slot : (g : GraphValue) → IsGraph g → (node : Node) → NodeOk node → ((id : NodeId) → ¬ (HasName g id node.name)) → IsGraph (with_slot g node)
 IsGraph-with_slot g ok node node_ok fresh =
@@ -50,20 +50,21 @@ IsGraph-with_slot g ok node node_ok fresh =
       once = ok.once;
     }
   where
-  stays : (side : Side) (p : PortAt) (shape : Shape) → shape_at g side p ≡ Some shape → shape_at (with_slot g node) side p ≡ Some shape
-  stays side p shape = shape_kept g (with_slot g node) side p shape (λ found live. pushed_old g.slots node found p.node.index live)
-  names : (i j : NodeId) (name : Name) → HasName (with_slot g node) i name → HasName (with_slot g node) j name → i ≡ j
-  names i j name (a, live_a, name_a) (b, live_b, name_b) =
-      elim (pushed_either g.slots node a i.index live_a) [
-        | inl old_a ↦ elim (pushed_either g.slots node b j.index live_b) [
-          | inl old_b ↦ ok.names i j name (a, old_a, name_a) (b, old_b, name_b)
-          | inr new_b ↦ absurd (fresh i (a, old_a, name_a ∙ sym name_b ∙ ap (λ n. n.name) new_b.1))
+    stays : (side : Side) (p : PortAt) (shape : Shape) → shape_at g side p ≡ Some shape → shape_at (with_slot g node) side p ≡ Some shape
+    stays side p shape = shape_kept g (with_slot g node) side p shape (λ found live. pushed_old g.slots node found p.node.index live)
+
+    names : (i j : NodeId) (name : Name) → HasName (with_slot g node) i name → HasName (with_slot g node) j name → i ≡ j
+    names i j name (a, live_a, name_a) (b, live_b, name_b) =
+        elim (pushed_either g.slots node a i.index live_a) [
+          | inl old_a ↦ elim (pushed_either g.slots node b j.index live_b) [
+            | inl old_b ↦ ok.names i j name (a, old_a, name_a) (b, old_b, name_b)
+            | inr new_b ↦ absurd (fresh i (a, old_a, name_a ∙ sym name_b ∙ ap (λ n. n.name) new_b.1))
+          ]
+          | inr new_a ↦ elim (pushed_either g.slots node b j.index live_b) [
+            | inl old_b ↦ absurd (fresh j (b, old_b, name_b ∙ sym name_a ∙ ap (λ n. n.name) new_a.1))
+            | inr new_b ↦ λ k. record { index = (new_a.0 ∙ sym new_b.0) k }
+          ]
         ]
-        | inr new_a ↦ elim (pushed_either g.slots node b j.index live_b) [
-          | inl old_b ↦ absurd (fresh j (b, old_b, name_b ∙ sym name_a ∙ ap (λ n. n.name) new_a.1))
-          | inr new_b ↦ λ k. record { index = (new_a.0 ∙ sym new_b.0) k }
-        ]
-      ]
 
 -- what feeds an input once a wire is added: the new output, or what fed it
 record Fed (g : GraphValue) (source target p from : PortAt) : Type 0 where
@@ -73,34 +74,36 @@ record Fed (g : GraphValue) (source target p from : PortAt) : Type 0 where
 fed_either : (g : GraphValue) (source target p from : PortAt) → map.get (with_feeder g source target).feeders p ≡ Some from → Fed g source target p from ⊎ (map.get g.feeders p ≡ Some from)
 fed_either g source target p from wired = at (eq_by_cmp place_cmp p target) refl
   where
-  at : (b : Bool) → eq_by_cmp place_cmp p target ≡ b → Fed g source target p from ⊎ (map.get g.feeders p ≡ Some from)
-  at true e = inl (record { is_target = same_place p target e; is_source = same_Some (sym wired ∙ map.get-insert place_total g.feeders target source p ∙ ap (λ b. cond b (Some source) (map.get g.feeders p)) e) })
-  at false e = inr (ap (λ b. cond b (Some source) (map.get g.feeders p)) (sym e) ∙ sym (map.get-insert place_total g.feeders target source p) ∙ wired)
+    at : (b : Bool) → eq_by_cmp place_cmp p target ≡ b → Fed g source target p from ⊎ (map.get g.feeders p ≡ Some from)
+    at true e = inl (record { is_target = same_place p target e; is_source = same_Some (sym wired ∙ map.get-insert place_total g.feeders target source p ∙ ap (λ b. cond b (Some source) (map.get g.feeders p)) e) })
+    at false e = inr (ap (λ b. cond b (Some source) (map.get g.feeders p)) (sym e) ∙ sym (map.get-insert place_total g.feeders target source p) ∙ wired)
 
 pub IsGraph-with_feeder : (g : GraphValue) → IsGraph g → (source target : PortAt) → wire_fault g source target ≡ None → IsGraph (with_feeder g source target)
 IsGraph-with_feeder g ok source target fits =
     record { nodes = ok.nodes; names = ok.names; wires = wires; once = once }
   where
-  fit : Fitting g source target
-  fit = fitting g source target fits
-  wires : (p from : PortAt) → map.get (with_feeder g source target).feeders p ≡ Some from → (shape : Shape) × (shape_at g Outs from ≡ Some shape) × (shape_at g Ins p ≡ Some shape)
-  wires p from wired =
-      elim (fed_either g source target p from wired) [
-        | inl new ↦ (fit.shape, ap (shape_at g Outs) new.is_source ∙ fit.leaves, ap (shape_at g Ins) new.is_target ∙ fit.enters)
-        | inr old ↦ ok.wires p from old
-      ]
-  once : (p q from : PortAt) → map.get (with_feeder g source target).feeders p ≡ Some from → map.get (with_feeder g source target).feeders q ≡ Some from → p ≡ q
-  once p q from at_p at_q =
-      elim (fed_either g source target p from at_p) [
-        | inl new_p ↦ elim (fed_either g source target q from at_q) [
-          | inl new_q ↦ new_p.is_target ∙ sym new_q.is_target
-          | inr old_q ↦ absurd (fit.from q (old_q ∙ ap Some new_p.is_source))
+    fit : Fitting g source target
+    fit = fitting g source target fits
+
+    wires : (p from : PortAt) → map.get (with_feeder g source target).feeders p ≡ Some from → (shape : Shape) × (shape_at g Outs from ≡ Some shape) × (shape_at g Ins p ≡ Some shape)
+    wires p from wired =
+        elim (fed_either g source target p from wired) [
+          | inl new ↦ (fit.shape, ap (shape_at g Outs) new.is_source ∙ fit.leaves, ap (shape_at g Ins) new.is_target ∙ fit.enters)
+          | inr old ↦ ok.wires p from old
         ]
-        | inr old_p ↦ elim (fed_either g source target q from at_q) [
-          | inl new_q ↦ absurd (fit.from p (old_p ∙ ap Some new_q.is_source))
-          | inr old_q ↦ ok.once p q from old_p old_q
+
+    once : (p q from : PortAt) → map.get (with_feeder g source target).feeders p ≡ Some from → map.get (with_feeder g source target).feeders q ≡ Some from → p ≡ q
+    once p q from at_p at_q =
+        elim (fed_either g source target p from at_p) [
+          | inl new_p ↦ elim (fed_either g source target q from at_q) [
+            | inl new_q ↦ new_p.is_target ∙ sym new_q.is_target
+            | inr old_q ↦ absurd (fit.from q (old_q ∙ ap Some new_p.is_source))
+          ]
+          | inr old_p ↦ elim (fed_either g source target q from at_q) [
+            | inl new_q ↦ absurd (fit.from p (old_p ∙ ap Some new_q.is_source))
+            | inr old_q ↦ ok.once p q from old_p old_q
+          ]
         ]
-      ]
 
 -- the ports of other nodes
 
@@ -128,16 +131,16 @@ nor false false e = (refl, refl)
 pub left : (g : GraphValue) (id : NodeId) (target source : PortAt) → map.get (without_slot g id).feeders target ≡ Some source → Left g id target source
 left g id target source wired = at (stays g id target) refl
   where
-  at : (b : Bool) → stays g id target ≡ b → Left g id target source
-  at false e = absurd (not_None (sym wired ∙ get-without_slot g id target ∙ ap (λ b. cond b (map.get g.feeders target) None) e))
-  at true e =
-      let was : map.get g.feeders target ≡ Some source = ap (λ b. cond b (map.get g.feeders target) None) (sym e) ∙ sym (get-without_slot g id target) ∙ wired in
-      let parts = nor _ _ e in
-      record {
-        wired = was;
-        target_away = away_from id target parts.0;
-        source_away = away_from id source (ap (is_at id) (sym was) ∙ parts.1);
-      }
+    at : (b : Bool) → stays g id target ≡ b → Left g id target source
+    at false e = absurd (not_None (sym wired ∙ get-without_slot g id target ∙ ap (λ b. cond b (map.get g.feeders target) None) e))
+    at true e =
+        let was : map.get g.feeders target ≡ Some source = ap (λ b. cond b (map.get g.feeders target) None) (sym e) ∙ sym (get-without_slot g id target) ∙ wired in
+        let parts = nor _ _ e in
+        record {
+          wired = was;
+          target_away = away_from id target parts.0;
+          source_away = away_from id source (ap (is_at id) (sym was) ∙ parts.1);
+        }
 
 pub IsGraph-without_slot : (g : GraphValue) → IsGraph g → (id : NodeId) → IsGraph (without_slot g id)
 IsGraph-without_slot g ok id =
@@ -151,5 +154,5 @@ IsGraph-without_slot g ok id =
       once = λ p q source at_p at_q. ok.once p q source (left g id p source at_p).wired (left g id q source at_q).wired;
     }
   where
-  kept : (side : Side) (p : PortAt) (shape : Shape) → p.node.index ≢ id.index → shape_at g side p ≡ Some shape → shape_at (without_slot g id) side p ≡ Some shape
-  kept side p shape apart = shape_kept g (without_slot g id) side p shape (λ node live. emptied_other g.slots id.index p.node.index apart ∙ live)
+    kept : (side : Side) (p : PortAt) (shape : Shape) → p.node.index ≢ id.index → shape_at g side p ≡ Some shape → shape_at (without_slot g id) side p ≡ Some shape
+    kept side p shape apart = shape_kept g (without_slot g id) side p shape (λ node live. emptied_other g.slots id.index p.node.index apart ∙ live)

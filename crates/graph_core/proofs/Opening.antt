@@ -51,9 +51,9 @@ module _ (g : GraphValue) (id : NodeId) (node : Node) (live : node_at g id ≡ S
   pub is_first_out : (port : ℕ) → AreWired g Ins id (length (ins node.kind)) → IsFirstFree g Outs id (length (outs node.kind)) port → IsFirstOpenAt g id (record { node = id; side = Outs; port = port })
   is_first_out port wired found = record { at = refl; is_open = is_open_at Outs port found; first = λ other at is_open before. first other.side other.port (subst (λ i. IsFree g other.side (port_at i other.port)) at is_open.free) (open_within other at is_open) before }
     where
-    first : (side : Side) (k : ℕ) → IsFree g side (port_at id k) → Within (ports node.kind side) k → ¬ (ComesBefore side k Outs port)
-    first Ins k free number before = wired k number.some number.few free
-    first Outs k free number before = found.first k number.some before free
+      first : (side : Side) (k : ℕ) → IsFree g side (port_at id k) → Within (ports node.kind side) k → ¬ (ComesBefore side k Outs port)
+      first Ins k free number before = wired k number.some number.few free
+      first Outs k free number before = found.first k number.some before free
 
 -- an open port is one of a slot
 pub open_slot : (g : GraphValue) (p : PortOpen) → IsOpen g p → p.node.index < length g.slots

@@ -58,8 +58,8 @@ find_each (wire ∷ wires) (suc i) d apart h =
     let rest : map.find place_cmp (get_or wires i d).target (feeder_list wires) ≡ Some (get_or wires i d).source = find_each wires i d apart.1 (omega arith) in
     find_later _ wire wires (λ e. absurd (no_clash _ (get_or wires i d).source (ap (λ p. map.find place_cmp p (feeder_list wires)) e ∙ apart.0) rest)) ∙ rest
   where
-  no_clash : (o : Option PortAt) (p : PortAt) → o ≡ None → o ≡ Some p → ⊥
-  no_clash o p a b = let e : ◌≡◌ {A = Option PortAt} None (Some p) = sym a ∙ b in cc
+    no_clash : (o : Option PortAt) (p : PortAt) → o ≡ None → o ≡ Some p → ⊥
+    no_clash o p a b = let e : ◌≡◌ {A = Option PortAt} None (Some p) = sym a ∙ b in cc
 
 -- A wire pushed behind, and wires taken out
 
@@ -70,12 +70,12 @@ pub AreApart-push : (es : List (PortAt × PortAt)) (target source : PortAt) → 
 AreApart-push [] target source apart free = (refl, tt)
 AreApart-push (entry ∷ es) target source apart free = at (AreApart-push es target source apart.1) (eq_by_cmp place_cmp target entry.0) refl
   where
-  at : (map.find place_cmp target es ≡ None → AreApart (es ++ (target, source) ∷ [])) → (b : Bool) → eq_by_cmp place_cmp target entry.0 ≡ b → AreApart ((entry ∷ es) ++ (target, source) ∷ [])
-  at more true e = absurd (not_None (ap (λ b. cond b (Some entry.1) (map.find place_cmp target es)) (sym e) ∙ free))
-  at more false e =
-      let rest : map.find place_cmp target es ≡ None = ap (λ b. cond b (Some entry.1) (map.find place_cmp target es)) (sym e) ∙ free in
-      let other : eq_by_cmp place_cmp entry.0 target ≡ false = other_place entry.0 target (λ same. true≢false (sym (here target) ∙ ap (eq_by_cmp place_cmp target) (sym same) ∙ e)) in
-      (find-append place_cmp place_total es target source entry.0 rest ∙ ap (λ b. cond b (Some source) (map.find place_cmp entry.0 es)) other ∙ apart.0, more rest)
+    at : (map.find place_cmp target es ≡ None → AreApart (es ++ (target, source) ∷ [])) → (b : Bool) → eq_by_cmp place_cmp target entry.0 ≡ b → AreApart ((entry ∷ es) ++ (target, source) ∷ [])
+    at more true e = absurd (not_None (ap (λ b. cond b (Some entry.1) (map.find place_cmp target es)) (sym e) ∙ free))
+    at more false e =
+        let rest : map.find place_cmp target es ≡ None = ap (λ b. cond b (Some entry.1) (map.find place_cmp target es)) (sym e) ∙ free in
+        let other : eq_by_cmp place_cmp entry.0 target ≡ false = other_place entry.0 target (λ same. true≢false (sym (here target) ∙ ap (eq_by_cmp place_cmp target) (sym same) ∙ e)) in
+        (find-append place_cmp place_total es target source entry.0 rest ∙ ap (λ b. cond b (Some source) (map.find place_cmp entry.0 es)) other ∙ apart.0, more rest)
 
 -- a wire into another input changes nothing, kept or not
 skipped : (target : PortAt) (wire : Wire) (wires : List Wire) (kept : Bool) → eq_by_cmp place_cmp target wire.target ≡ false → map.find place_cmp target (feeder_list (cond kept (wire ∷ wires) wires)) ≡ map.find place_cmp target (feeder_list wires)
@@ -86,10 +86,10 @@ pub find_none-filter : (p : Wire → Bool) (target : PortAt) (wires : List Wire)
 find_none-filter p target [] free = refl
 find_none-filter p target (wire ∷ wires) free = at (find_none-filter p target wires) (eq_by_cmp place_cmp target wire.target) refl
   where
-  at : (map.find place_cmp target (feeder_list wires) ≡ None → map.find place_cmp target (feeder_list (filter p wires)) ≡ None) → (b : Bool) → eq_by_cmp place_cmp target wire.target ≡ b
-      → map.find place_cmp target (feeder_list (filter p (wire ∷ wires))) ≡ None
-  at rest true e = absurd (not_None (ap (λ b. cond b (Some wire.source) (map.find place_cmp target (feeder_list wires))) (sym e) ∙ free))
-  at rest false e = skipped target wire (filter p wires) (p wire) e ∙ rest (ap (λ b. cond b (Some wire.source) (map.find place_cmp target (feeder_list wires))) (sym e) ∙ free)
+    at : (map.find place_cmp target (feeder_list wires) ≡ None → map.find place_cmp target (feeder_list (filter p wires)) ≡ None) → (b : Bool) → eq_by_cmp place_cmp target wire.target ≡ b
+        → map.find place_cmp target (feeder_list (filter p (wire ∷ wires))) ≡ None
+    at rest true e = absurd (not_None (ap (λ b. cond b (Some wire.source) (map.find place_cmp target (feeder_list wires))) (sym e) ∙ free))
+    at rest false e = skipped target wire (filter p wires) (p wire) e ∙ rest (ap (λ b. cond b (Some wire.source) (map.find place_cmp target (feeder_list wires))) (sym e) ∙ free)
 
 pub AreApart-filter : (p : Wire → Bool) (wires : List Wire) → AreApart (feeder_list wires) → AreApart (feeder_list (filter p wires))
 AreApart-filter p [] apart = tt
@@ -113,17 +113,17 @@ pub find-filter : (id : NodeId) (target : PortAt) (wires : List Wire) → AreApa
 find-filter id target [] apart = elim (stays_if id target None) as (λ b. ◌≡◌ {A = Option PortAt} None (cond b None None)) [ true ↦ refl | false ↦ refl ]
 find-filter id target (wire ∷ wires) apart = at (find-filter id target wires apart.1) (eq_by_cmp place_cmp target wire.target) refl
   where
-  at : map.find place_cmp target (feeder_list (away id wires)) ≡ cond (stays_if id target (map.find place_cmp target (feeder_list wires))) (map.find place_cmp target (feeder_list wires)) None
-      → (b : Bool) → eq_by_cmp place_cmp target wire.target ≡ b
-      → map.find place_cmp target (feeder_list (cond (not (stands_at id wire)) (wire ∷ away id wires) (away id wires))) ≡ cond (stays_if id target (map.find place_cmp target (feeder_list (wire ∷ wires)))) (map.find place_cmp target (feeder_list (wire ∷ wires))) None
-  at more true e =
-      let same = same_place target wire.target e in
-      let found : map.find place_cmp target (feeder_list (wire ∷ wires)) ≡ Some wire.source = find_first target wire wires (sym same) in
-      kept_or_not (not (stands_at id wire)) (sym same) ∙ ap (λ q. cond (stays_if id q (Some wire.source)) (Some wire.source) None) (sym same) ∙ ap (λ o. cond (stays_if id target o) o None) (sym found)
-    where
-    kept_or_not : (k : Bool) → wire.target ≡ target → map.find place_cmp target (feeder_list (cond k (wire ∷ away id wires) (away id wires))) ≡ cond k (Some wire.source) None
-    kept_or_not true same = find_first target wire (away id wires) same
-    kept_or_not false same = subst (λ q. map.find place_cmp q (feeder_list (away id wires)) ≡ None) same (find_none-filter (λ w. not (stands_at id w)) wire.target wires apart.0)
-  at more false e =
-      let later : map.find place_cmp target (feeder_list (wire ∷ wires)) ≡ map.find place_cmp target (feeder_list wires) = ap (λ b. cond b (Some wire.source) (map.find place_cmp target (feeder_list wires))) e in
-      skipped target wire (away id wires) (not (stands_at id wire)) e ∙ more ∙ ap (λ o. cond (stays_if id target o) o None) (sym later)
+    at : map.find place_cmp target (feeder_list (away id wires)) ≡ cond (stays_if id target (map.find place_cmp target (feeder_list wires))) (map.find place_cmp target (feeder_list wires)) None
+        → (b : Bool) → eq_by_cmp place_cmp target wire.target ≡ b
+        → map.find place_cmp target (feeder_list (cond (not (stands_at id wire)) (wire ∷ away id wires) (away id wires))) ≡ cond (stays_if id target (map.find place_cmp target (feeder_list (wire ∷ wires)))) (map.find place_cmp target (feeder_list (wire ∷ wires))) None
+    at more true e =
+        let same = same_place target wire.target e in
+        let found : map.find place_cmp target (feeder_list (wire ∷ wires)) ≡ Some wire.source = find_first target wire wires (sym same) in
+        kept_or_not (not (stands_at id wire)) (sym same) ∙ ap (λ q. cond (stays_if id q (Some wire.source)) (Some wire.source) None) (sym same) ∙ ap (λ o. cond (stays_if id target o) o None) (sym found)
+      where
+        kept_or_not : (k : Bool) → wire.target ≡ target → map.find place_cmp target (feeder_list (cond k (wire ∷ away id wires) (away id wires))) ≡ cond k (Some wire.source) None
+        kept_or_not true same = find_first target wire (away id wires) same
+        kept_or_not false same = subst (λ q. map.find place_cmp q (feeder_list (away id wires)) ≡ None) same (find_none-filter (λ w. not (stands_at id w)) wire.target wires apart.0)
+    at more false e =
+        let later : map.find place_cmp target (feeder_list (wire ∷ wires)) ≡ map.find place_cmp target (feeder_list wires) = ap (λ b. cond b (Some wire.source) (map.find place_cmp target (feeder_list wires))) e in
+        skipped target wire (away id wires) (not (stands_at id wire)) e ∙ more ∙ ap (λ o. cond (stays_if id target o) o None) (sym later)

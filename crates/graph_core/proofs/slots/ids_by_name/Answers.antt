@@ -20,7 +20,7 @@ loop-index-preserved c =
       | in-Some+in_ok-insert w ↦
           let put : c.match-slot.ids.entries ≡ insert_entry ref_cmp c.loop-index.ids.entries w.bytes.result w.new.result = search rules in
           subst (λ xs. Matches nodes xs (so_far nodes (c.loop-index.index + 1))) (sym put)
-              (Matches-node nodes c.loop-index.index w.in-Some.node w.bytes.result w.new.result c.loop-index.ids.entries c.requires (slot ∙ w.in-Some.is) w.bytes.ensures.same (ap (λ id. id.index) w.new.ensures) c.loop-index.invariant)
+          (Matches-node nodes c.loop-index.index w.in-Some.node w.bytes.result w.new.result c.loop-index.ids.entries c.requires (slot ∙ w.in-Some.is) w.bytes.ensures.same (ap (λ id. id.index) w.new.ensures) c.loop-index.invariant)
       | in_default w ↦
           let none : c.index-nodes-index.result ≡ None = search rules in
           let same : c.match-slot.ids.entries ≡ c.loop-index.ids.entries = search rules in

@@ -9,7 +9,7 @@ pub returns-clause-none : goal.returns-clause-none
 returns-clause-none c =
     let slots : c.deref.result.now ≡ c.args.self.now.slots = c.deref.ensures.value ∙ ap (λ g. g.slots) c.self.view_is in
     if_none c.map.result _ (λ e id. subst (λ s. ¬ (IsNamedAt s id.index c.args.name.now)) slots
-        (at_none c.index_of.result _ (none_by c.index_of.result (sym c.map.ensures.variant ∙ ap is_some e)) c.index_of.ensures.none id.index))
+    (at_none c.index_of.result _ (none_by c.index_of.result (sym c.map.ensures.variant ∙ ap is_some e)) c.index_of.ensures.none id.index))
 
 pub returns-clause-names : goal.returns-clause-names
 returns-clause-names c =

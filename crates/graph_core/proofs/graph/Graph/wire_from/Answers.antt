@@ -30,8 +30,8 @@ pub returns-clause-live : goal.returns-clause-live
 returns-clause-live c =
     let ok = subst IsGraph c.self.view_is c.self.invariant.0 in
     if_some c.target_in.result _ (λ target e.
-        let wire = ok.wires target c.args.source (fed c target e) in
-        live_where_shaped c.args.self.now Ins target wire.0 wire.2)
+    let wire = ok.wires target c.args.source (fed c target e) in
+    live_where_shaped c.args.self.now Ins target wire.0 wire.2)
 
 pub returns-clause-names : goal.returns-clause-names
 returns-clause-names c =

@@ -17,8 +17,8 @@ pub returns-clause-live : goal.returns-clause-live
 returns-clause-live c =
     let ok = subst IsGraph c.self.view_is c.self.invariant.0 in
     if_some c.source_in.result _ (λ source e.
-        let wire = ok.wires c.args.target source (sym (returns-clause-feeder c) ∙ e) in
-        live_where_shaped c.args.self.now Outs source wire.0 wire.1)
+    let wire = ok.wires c.args.target source (sym (returns-clause-feeder c) ∙ e) in
+    live_where_shaped c.args.self.now Outs source wire.0 wire.1)
 
 pub returns-clause-names : goal.returns-clause-names
 returns-clause-names c = λ live.
