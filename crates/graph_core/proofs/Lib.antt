@@ -1,3 +1,8 @@
+mod Options
+mod Each
+mod Maps
+mod NamedNodes
+mod Feeds
 pub mod Orders
 pub mod PortLists
 pub mod SlotLists

@@ -1,0 +1,117 @@
+-- Finite maps over an order in which only equal keys tie.
+use Rattle.std.proofs.Common.{◌≡◌, ◌≢◌, ◌⊎◌, inl, inr, Bool, true, false, cond, T, ◌&&◌, List, [], ◌∷◌, map, Option, Some, None, Ordering, Less, Equal, Greater, option_map, refl, sym, ap, ◌∙◌, true≢false}
+use Rattle.std.specs.Ordering.{eq_by_cmp, is_eq, is_lt, ordering_reverse}
+use Rattle.std.specs.List.{AllByRecursion}
+use Rattle.std.specs.Cmp.{IsTotalOrder, tied_itself, Equal-is}
+use Rattle.std.specs.FinMap.{FinMap, IsAntisymmetric, find, is_sorted, entries, entries_sorted, get, get-entries, insert, get-insert, remove, get-remove, retain_keys, get-retain_keys}
+use Rattle.std.specs.FinMap.Entries.{below_all}
+use Rattle.std.proofs.lemmas.Option.{same_Some}
+use Rattle.graph_core.proofs.Options.{none_some}
+use Rattle.graph_core.proofs.Each.{each_weaker}
+
+-- two keys are one, or they are not, as the test says
+pub record Same {K : Type 0} (R : K → K → Ordering) (q k : K) : Type 0 where
+  pub test : eq_by_cmp R q k ≡ true
+  pub is : q ≡ k
+
+pub record Other {K : Type 0} (R : K → K → Ordering) (q k : K) : Type 0 where
+  pub test : eq_by_cmp R q k ≡ false
+  pub is_not : q ≢ k
+
+module _ {K : Type 0} {R : K → K → Ordering} (total : IsTotalOrder R) (same : IsAntisymmetric R) where
+  pub same_key : (q k : K) → q ≡ k → eq_by_cmp R q k ≡ true
+  same_key q k e = ap (λ (x : K). eq_by_cmp R q x) (sym e) ∙ ap is_eq (tied_itself total q)
+
+  key_cases_at : (q k : K) (b : Bool) → eq_by_cmp R q k ≡ b → Same R q k ⊎ Other R q k
+  key_cases_at q k true e = inl (record { test = e; is = same q k ((Equal-is (R q k)).0 e) })
+  key_cases_at q k false e = inr (record { test = e; is_not = λ h. true≢false (sym (same_key q k h) ∙ e) })
+
+  pub key_cases : (q k : K) → Same R q k ⊎ Other R q k
+  key_cases q k = key_cases_at q k (eq_by_cmp R q k) refl
+
+  pub other_key : (q k : K) → q ≢ k → eq_by_cmp R q k ≡ false
+  other_key q k apart = elim (key_cases q k) [ inl one ↦ absurd (apart one.is) | inr two ↦ two.test ]
+
+-- Look-ups after a change
+
+module _ {K X : Type 0} {R : K → K → Ordering} (total : IsTotalOrder R) (same : IsAntisymmetric R) (m : FinMap R X) where
+  pub insert_here : (k : K) (v : X) → get (insert m k v) k ≡ Some v
+  insert_here k v = get-insert total m k v k ∙ ap (λ b. cond b (Some v) (get m k)) (same_key total same k k refl)
+
+  pub insert_other : (k : K) (v : X) (q : K) → q ≢ k → get (insert m k v) q ≡ get m q
+  insert_other k v q apart = get-insert total m k v q ∙ ap (λ b. cond b (Some v) (get m q)) (other_key total same q k apart)
+
+  pub remove_here : (k : K) → get (remove m k) k ≡ None
+  remove_here k = get-remove total m k k ∙ ap (λ b. cond b None (get m k)) (same_key total same k k refl)
+
+  pub remove_other : (k q : K) → q ≢ k → get (remove m k) q ≡ get m q
+  remove_other k q apart = get-remove total m k q ∙ ap (λ b. cond b None (get m q)) (other_key total same q k apart)
+
+  kept_at : (p : K → Bool) (q : K) → get (retain_keys m p) q ≡ cond (p q) (get m q) None
+  kept_at p q = get-retain_keys m p q (λ x tied. ap p (sym (same q x tied)))
+
+  pub kept : (p : K → Bool) (q : K) → p q ≡ true → get (retain_keys m p) q ≡ get m q
+  kept p q passes = kept_at p q ∙ ap (λ b. cond b (get m q) None) passes
+
+  passed : (b : Bool) (o : Option X) (v : X) → cond b o None ≡ Some v → (b ≡ true) × (o ≡ Some v)
+  passed true o v is = (refl, is)
+  passed false o v is = absurd (none_some v refl is)
+
+  pub kept_parts : (p : K → Bool) (q : K) (v : X) → get (retain_keys m p) q ≡ Some v → (p q ≡ true) × (get m q ≡ Some v)
+  kept_parts p q v is = passed (p q) (get m q) v (sym (kept_at p q) ∙ is)
+
+-- Each entry of a map is found under its key
+
+and_parts : (a b : Bool) → T (a && b) → T a × T b
+and_parts true b h = (tt, h)
+and_parts false b h = absurd h
+
+below_apart : (r : Ordering) → T (is_lt r) → is_eq (ordering_reverse r) ≡ false
+below_apart Less h = refl
+below_apart Equal h = absurd h
+below_apart Greater h = absurd h
+
+module _ {K X : Type 0} {R : K → K → Ordering} (total : IsTotalOrder R) (same : IsAntisymmetric R) where
+  found_later : (e : K × X) (all es : List (K × X)) → T (below_all R e.0 es) → AllByRecursion (λ x. find R x.0 all ≡ Some x.1) es → AllByRecursion (λ x. find R x.0 (e ∷ all) ≡ Some x.1) es
+  found_later e all [] below found = tt
+  found_later e all (x ∷ es) below found =
+      let parts = and_parts (is_lt (R e.0 x.0)) (below_all R e.0 es) below in
+      let apart : eq_by_cmp R x.0 e.0 ≡ false = ap is_eq (total.antisymm x.0 e.0) ∙ below_apart (R e.0 x.0) parts.0 in
+      (ap (λ b. cond b (Some e.1) (find R x.0 all)) apart ∙ found.0, found_later e all es parts.1 found.1)
+
+  found_in : (es : List (K × X)) → T (is_sorted R es) → AllByRecursion (λ x. find R x.0 es ≡ Some x.1) es
+  found_in [] sorted = tt
+  found_in (e ∷ es) sorted =
+      let parts = and_parts (below_all R e.0 es) (is_sorted R es) sorted in
+      (ap (λ b. cond b (Some e.1) (find R e.0 es)) (same_key total same e.0 e.0 refl), found_later e es es parts.0 (found_in es parts.1))
+
+  pub each_found : (m : FinMap R X) → AllByRecursion (λ x. get m x.0 ≡ Some x.1) (entries m)
+  each_found m = each_weaker (λ x. find R x.0 (entries m) ≡ Some x.1) (λ x. get m x.0 ≡ Some x.1) (λ x found. get-entries m x.0 ∙ found) (entries m) (found_in (entries m) (entries_sorted m))
+
+-- Entries with new keys and new values
+
+-- behind what is found stands an entry
+pub record Behind {K X J Y : Type 0} (f : K → J) (h : X → Y) (P : K × X → Type 0) (q : J) (w : Y) : Type 0 where
+  pub entry : K × X
+  pub holds : P entry
+  pub is_key : f entry.0 ≡ q
+  pub is_value : h entry.1 ≡ w
+
+module _ {K X J Y : Type 0} {R : K → K → Ordering} {S : J → J → Ordering} (total : IsTotalOrder R) (same : IsAntisymmetric R) (total_new : IsTotalOrder S) (same_new : IsAntisymmetric S) (f : K → J) (h : X → Y) where
+  pub renamed_found : (es : List (K × X)) (k : K) (v : X) → AllByRecursion (λ e. f e.0 ≡ f k → e.0 ≡ k) es → find R k es ≡ Some v → find S (f k) (map (λ e. (f e.0, h e.1)) es) ≡ Some (h v)
+  renamed_found [] k v apart is = absurd (none_some v refl is)
+  renamed_found (e ∷ es) k v apart is =
+      elim (key_cases total same k e.0) [
+        | inl one ↦ ap (λ b. cond b (Some (h e.1)) (find S (f k) (map (λ x. (f x.0, h x.1)) es))) (same_key total_new same_new (f k) (f e.0) (ap f one.is))
+            ∙ ap (option_map h) (sym (ap (λ b. cond b (Some e.1) (find R k es)) one.test) ∙ is)
+        | inr two ↦ ap (λ b. cond b (Some (h e.1)) (find S (f k) (map (λ x. (f x.0, h x.1)) es))) (other_key total_new same_new (f k) (f e.0) (λ tied. two.is_not (sym (apart.0 (sym tied)))))
+            ∙ renamed_found es k v apart.1 (sym (ap (λ b. cond b (Some e.1) (find R k es)) two.test) ∙ is)
+      ]
+
+  pub renamed_behind : (P : K × X → Type 0) (es : List (K × X)) (q : J) (w : Y) → AllByRecursion P es → find S q (map (λ e. (f e.0, h e.1)) es) ≡ Some w → Behind f h P q w
+  renamed_behind P [] q w each is = absurd (none_some w refl is)
+  renamed_behind P (e ∷ es) q w each is =
+      elim (key_cases total_new same_new q (f e.0)) [
+        | inl one ↦ record { entry = e; holds = each.0; is_key = sym one.is; is_value = same_Some (h e.1) w (sym (ap (λ b. cond b (Some (h e.1)) (find S q (map (λ x. (f x.0, h x.1)) es))) one.test) ∙ is) }
+        | inr two ↦ renamed_behind P es q w each.1 (sym (ap (λ b. cond b (Some (h e.1)) (find S q (map (λ x. (f x.0, h x.1)) es))) two.test) ∙ is)
+      ]
