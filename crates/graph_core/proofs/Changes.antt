@@ -44,14 +44,14 @@ without_slot-dead g ok id dead =
     let feeders = map.same_map place_total place_same (without_slot g id).feeders g.feeders (λ target. get-without_slot g id target ∙ same target (map.get g.feeders target) refl) in
     λ i. record { slots = slots i; feeders = feeders i }
   where
-  same : (target : PortAt) (o : Option PortAt) → map.get g.feeders target ≡ o → cond (stays g id target) (map.get g.feeders target) None ≡ map.get g.feeders target
-  same target None e = ap (λ o. cond (stays g id target) o None) e ∙ either (stays g id target) ∙ sym e
-    where
-    either : (b : Bool) → ◌≡◌ {A = Option PortAt} (cond b None None) None
-    either true = refl
-    either false = refl
-  same target (Some source) e =
-      let wire = ok.wires target source e in
-      let target_away = not_here g id target dead (live_where_shaped g Ins target wire.0 wire.2) in
-      let source_away = not_here g id source dead (live_where_shaped g Outs source wire.0 wire.1) in
-      ap (λ b. cond b (map.get g.feeders target) None) (neither _ _ target_away (ap (is_at id) e ∙ source_away))
+    same : (target : PortAt) (o : Option PortAt) → map.get g.feeders target ≡ o → cond (stays g id target) (map.get g.feeders target) None ≡ map.get g.feeders target
+    same target None e = ap (λ o. cond (stays g id target) o None) e ∙ either (stays g id target) ∙ sym e
+      where
+        either : (b : Bool) → ◌≡◌ {A = Option PortAt} (cond b None None) None
+        either true = refl
+        either false = refl
+    same target (Some source) e =
+        let wire = ok.wires target source e in
+        let target_away = not_here g id target dead (live_where_shaped g Ins target wire.0 wire.2) in
+        let source_away = not_here g id source dead (live_where_shaped g Outs source wire.0 wire.1) in
+        ap (λ b. cond b (map.get g.feeders target) None) (neither _ _ target_away (ap (is_at id) e ∙ source_away))

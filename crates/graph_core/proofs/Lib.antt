@@ -11,6 +11,8 @@ pub mod Finding
 pub mod Faults
 pub mod KeepsGraph
 pub mod Changes
+pub mod Opening
+pub mod InOrder
 pub mod ByNames
 pub mod ByNamesAfter
 pub mod TypedByNames

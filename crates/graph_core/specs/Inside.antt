@@ -37,3 +37,7 @@ IsNamedAt slots index name = (node : Node) × (flat (slice_get slots index) ≡ 
 -- one of the wire's ends is a port of the node
 abbrev pub stands_at : NodeId → Wire → Bool
 stands_at id wire = is_at id (Some wire.target) || is_at id (Some wire.source)
+
+-- no two live nodes have one name
+abbrev pub AreNamedApart : List (Option Node) → Type 0
+AreNamedApart slots = (i j : ℕ) (name : List ℕ) → IsNamedAt slots i name → IsNamedAt slots j name → i ≡ j

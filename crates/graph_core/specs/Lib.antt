@@ -6,3 +6,4 @@ pub mod Place
 pub mod GraphValue
 pub mod Wiring
 pub mod Inside
+pub mod OpenPorts

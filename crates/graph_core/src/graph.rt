@@ -1,16 +1,17 @@
-ghost use Rattle.std.specs.Prelude.{◌≡◌, ◌≢◌, ◌↔◌, ◌⊎◌, [], ◌∷◌, length, map, Some, None, Ok, Err, IsTrue, IsSome, IsNone, IsOk, IfSome, IfNone, IfOk, IfErr, OnOk, OnErr, OnSome, IsOkUnless, is_some, MatchResult};
+ghost use Rattle.std.specs.Prelude.{◌≡◌, ◌≢◌, ◌↔◌, ◌⊎◌, [], ◌∷◌, length, map, Some, None, Ok, Err, IsTrue, IsSome, IsNone, IsOk, IfSome, IfNone, IfOk, IfErr, OnOk, OnErr, OnSome, IsOkUnless, is_some, MatchOption, MatchResult};
 ghost use Rattle.std.specs.Option.{option_copied, option_map};
 ghost use Rattle.std.specs.FinMap as map_of;
 ghost use Rattle.graph_core.specs.Name.{IsName};
 ghost use Rattle.graph_core.specs.Node.{NodeOk, body_of};
 ghost use Rattle.graph_core.specs.NamedGraph.{CanWire, IsTyped, no_graph, with_node, with_wire, without_node};
 ghost use Rattle.graph_core.specs.GraphValue.{by_names, node_at, named, next_id, port_named, shape_at, HasName, with_slot, with_feeder, without_slot};
-ghost use Rattle.graph_core.specs.Wiring.{wire_fault, IsWireFault, IsFirstOpen};
+ghost use Rattle.graph_core.specs.Wiring.{wire_fault, IsWireFault, IsFree, IsFirstOpen};
+ghost use Rattle.graph_core.specs.OpenPorts.{IsClosed, IsFirstOpenAt, AreWired, IsFirstFree};
 
-use crate::kind::{Kind, inputs, outputs};
+use crate::kind::{inputs, outputs};
 use crate::node::Node;
 use crate::place::{NodeId, PortAt};
-use crate::slots::{index_of, node_in, take_at};
+use crate::slots::{ids_by_name, index_of, node_in, take_at};
 use crate::wires::{Wire, remove_at, source_in, target_in};
 use port_types::{NoMemory, Shape, Side, same_shape};
 use std::alloc::Global;
@@ -201,14 +202,7 @@ impl Graph {
     pub fn by_name(&self, alloc: Global) -> Result<Vec<NodeId>, NoMemory>
         ensures { IfOk result (λ ids. map (λ id. option_map named (node_at self.now id)) ids.items ≡ map Some (map_of.entries (by_names self.now).nodes)) }
     {
-        let mut named = Vec::with_capacity(alloc, self.nodes.len())?;
-        for (index, slot) in self.nodes.iter().enumerate() {
-            if let Some(node) = slot {
-                named.push((node.name.bytes(), NodeId::new(index)))?;
-            }
-        }
-        named.sort()?;
-        Ok(named.iter().map(|entry| entry.1).collect(alloc)?)
+        ids_by_name(alloc, &self.nodes)
     }
 }
 
@@ -218,27 +212,53 @@ pub fn check_typed(g: &Graph) -> Result<(), PortOpen>
     ensures first { IfErr result (IsFirstOpen g.now) }
 {
     for index in 0..g.nodes.len() {
-        let id = NodeId::new(index);
-        if let Some(node) = g.node(id) {
-            check_node(g, id, &node.kind)?;
-        }
+        check_node(g, NodeId::new(index))?;
     }
     Ok(())
 }
 
-/// Whether each port of the node stands on a wire, inputs first.
-fn check_node(g: &Graph, node: NodeId, kind: &Kind) -> Result<(), PortOpen> {
-    for port in 1..=inputs(kind) {
-        if g.wire_into(PortAt { node, port }).is_none() {
-            let side = Side::Ins;
-            return Err(PortOpen { node, side, port });
-        }
+/// Whether each port of the node stands on a wire. If not, the error is the first that stands on none, inputs before outputs, by number.
+fn check_node(g: &Graph, id: NodeId) -> Result<(), PortOpen>
+    ensures { MatchResult result (λ _. IsClosed g.now id) (IsFirstOpenAt g.now id) }
+{
+    let Some(node) = g.node(id) else {
+        return Ok(());
+    };
+    if let Some(port) = open_port(g, id, Side::Ins, inputs(&node.kind)) {
+        return Err(PortOpen {
+            node: id,
+            side: Side::Ins,
+            port,
+        });
     }
-    for port in 1..=outputs(kind) {
-        if g.wire_from(PortAt { node, port }).is_none() {
-            let side = Side::Outs;
-            return Err(PortOpen { node, side, port });
-        }
+    if let Some(port) = open_port(g, id, Side::Outs, outputs(&node.kind)) {
+        return Err(PortOpen {
+            node: id,
+            side: Side::Outs,
+            port,
+        });
     }
     Ok(())
+}
+
+/// The first port that stands on no wire, among the first `count` of one side of a node.
+fn open_port(g: &Graph, node: NodeId, side: Side, count: u8) -> Option<u8>
+    ensures { MatchOption result (AreWired g.now side node count) (IsFirstFree g.now side node count) }
+{
+    for port in 1..=count {
+        if is_free(g, side, PortAt { node, port }) {
+            return Some(port);
+        }
+    }
+    None
+}
+
+/// Whether the port stands on no wire.
+fn is_free(g: &Graph, side: Side, port: PortAt) -> bool
+    ensures { IsTrue result ↔ IsFree g.now side port }
+{
+    match side {
+        Side::Ins => g.wire_into(port).is_none(),
+        Side::Outs => g.wire_from(port).is_none(),
+    }
 }

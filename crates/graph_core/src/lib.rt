@@ -13,6 +13,8 @@ mod name;
 mod node;
 mod place;
 mod slots;
+#[cfg(test)]
+mod tests;
 mod wires;
 
 pub use graph::{AddNode, AddWire, Graph, PortOpen, check_typed};

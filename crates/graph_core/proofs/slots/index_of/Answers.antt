@@ -1,5 +1,4 @@
-use Rattle.std.proofs.Common.{◌≡◌, ◌≢◌, ◌<◌, Some, length, slice_get, sym, ◌∙◌, rules, arith, below_more}
-use Rattle.graph_core.specs.GraphValue.{flat}
+use Rattle.std.proofs.Common.{◌≢◌, sym, ◌∙◌, rules, arith, below_more}
 use Rattle.graph_core.proofs.SlotLists.{slot_at, slot_within, other_named, none_named}
 use Rattle.graph_core.proofs.slots.index_of.Goals as goal
 use Rattle.graph_core.proofs.slots.index_of.Goals.{in-Some+else-eq, in_default}

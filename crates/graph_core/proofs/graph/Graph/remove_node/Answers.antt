@@ -20,9 +20,10 @@ value_is c =
 
 pub invariant_of-self : goal.invariant_of-self
 invariant_of-self c =
-    let ok = subst IsGraph c.self.view_is c.self.invariant.0 in
-    (subst IsGraph (sym (value_is c)) (IsGraph-without_slot c.args.self.now ok c.args.id),
-        subst (λ wires. AreApart (feeder_list wires)) (sym c.remove_at.ensures) (AreApart-filter _ c.self.inside.wires.items c.self.invariant.1))
+    let ok = subst IsGraph c.self.view_is c.self.invariant.0 in (
+      subst IsGraph (sym (value_is c)) (IsGraph-without_slot c.args.self.now ok c.args.id),
+      subst (λ wires. AreApart (feeder_list wires)) (sym c.remove_at.ensures) (AreApart-filter _ c.self.inside.wires.items c.self.invariant.1),
+    )
 
 pub returns-clause-gone : goal.returns-clause-gone
 returns-clause-gone c = value_is c

@@ -1,0 +1,21 @@
+use Rattle.std.proofs.Common.{◌≡◌, length, Some, rules, subst, sym}
+use Rattle.port_types.specs.declared.side.Side.TheVariants.{Ins, Outs}
+use Rattle.graph_core.specs.Kind.{ins, outs}
+use Rattle.graph_core.specs.GraphValue.{node_at}
+use Rattle.graph_core.specs.OpenPorts.{AreWired, IsFirstFree}
+use Rattle.graph_core.proofs.Opening.{is_closed, is_first_out}
+use Rattle.graph_core.proofs.graph.check_node.Goals as goal
+
+pub returns-in-Some-open_port-2 : goal.returns-in-Some-open_port-2
+returns-in-Some-open_port-2 c =
+    let live : node_at c.args.g.now c.args.id ≡ Some c.in-Some.node.now = search rules in
+    let wired : AreWired c.args.g.now Ins c.args.id (length (ins c.in-Some.node.now.kind)) = subst (AreWired c.args.g.now Ins c.args.id) c.inputs.ensures c.in_default-open_port.ensures in
+    let found = subst (λ count. IsFirstFree c.args.g.now Outs c.args.id count c.in-Some-open_port-2.port) c.outputs.ensures c.in-Some-open_port-2.ensures in
+    is_first_out c.args.g.now c.args.id c.in-Some.node.now live c.in-Some-open_port-2.port wired found
+
+pub returns : goal.returns
+returns c =
+    let live : node_at c.args.g.now c.args.id ≡ Some c.in-Some.node.now = search rules in
+    let wired_ins = subst (AreWired c.args.g.now Ins c.args.id) c.inputs.ensures c.in_default-open_port.ensures in
+    let wired_outs = subst (AreWired c.args.g.now Outs c.args.id) c.outputs.ensures c.in_default-open_port-2.ensures in
+    is_closed c.args.g.now c.args.id c.in-Some.node.now live wired_ins wired_outs
