@@ -13,3 +13,4 @@ pub mod WireOrder
 pub mod Names
 pub mod Pairs
 pub mod Ports
+pub mod Answering
