@@ -1,6 +1,38 @@
-//! The program `graphiti`.
+//! The program `graphiti`: it reads an elastic dataflow circuit, rewrites it and prints it.
+//! All that it does is `run`; here the real streams are made and the status is passed on.
 #![tactic(auto)]
 
 mod lines;
+mod lines_out;
+mod printer;
+mod reader;
+mod run;
+mod status;
+mod strip;
+#[cfg(test)]
+mod tests;
 
-fn main(_rt: HostRuntime) {}
+use gx_base::{StdSink, StdSource};
+use run::run;
+use std::env;
+use std::process::ExitCode;
+
+fn main(rt: HostRuntime) -> ExitCode {
+    let mut source = StdSource::new(rt.stdin());
+    let mut out = StdSink::new(rt.stdout());
+    let mut err = StdSink::new(rt.stderr());
+    let words = words(&rt);
+    let status = run(rt.alloc(), &words, &mut source, &mut out, &mut err);
+    ExitCode::from(status.number())
+}
+
+/// The words of the command line without the program's name; none where they cannot be told, as words that are not UTF-8.
+fn words(rt: &(impl Env + AllocGlobal)) -> Vec<String> {
+    match env::args(rt) {
+        Ok(mut words) => {
+            let _ = words.next();
+            words.collect(rt.alloc()).unwrap_or(Vec::new(rt.alloc()))
+        }
+        Err(_) => Vec::new(rt.alloc()),
+    }
+}
