@@ -16,6 +16,7 @@ use gx_base::{StdSink, StdSource};
 use run::run;
 use std::env;
 use std::process::ExitCode;
+use std::rt::Env;
 
 fn main(rt: HostRuntime) -> ExitCode {
     let mut source = StdSource::new(rt.stdin());
