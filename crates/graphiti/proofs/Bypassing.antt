@@ -1,0 +1,194 @@
+-- Taking a Buffer out and joining what fed it to what it fed.
+use Rattle.std.proofs.Common.{◌≡◌, ◌≢◌, ◌⊎◌, ℕ, inl, inr, Bool, true, false, cond, not, ◌||◌, refl, sym, ap, subst, ◌∙◌, Option, Some, None, IsSome, IfSome, is_some, IsSomeAnd, bytes_eq, true≢false}
+use Rattle.std.proofs.lemmas.Bool.{cases_eq}
+use Rattle.std.proofs.lemmas.Option.{none-some, same_Some}
+use Rattle.std.proofs.lemmas.Slice.Eq.{bytes_eq-Decides}
+use Rattle.std.specs.Option.{option_map}
+use Rattle.std.specs.FinMap as map
+use Rattle.graph_core.specs.declared.kind.Kind.TheVariants.{Buffer}
+use Rattle.graph_core.specs.declared.node.Node.{Node}
+use Rattle.graph_core.specs.declared.place.NodeId.{NodeId}
+use Rattle.graph_core.specs.declared.place.PortAt.{PortAt}
+use Rattle.graph_core.specs.Place.{index_of}
+use Rattle.graph_core.specs.Name.{Name, Port, port_get}
+use Rattle.graph_core.specs.Kind.{Shape, ins, outs}
+use Rattle.graph_core.specs.Node.{body_of}
+use Rattle.graph_core.specs.NamedGraph.{NamedGraph, IsTyped, IsWire, CanWire, is_of, with_wire, without_node}
+use Rattle.graph_core.specs.GraphValue.{GraphValue, node_at, name_of, by_names, port_named, with_feeder, without_slot}
+use Rattle.graphiti.specs.Stripped.{IsBufferKind, IsBuffer, first_port}
+use Rattle.graphiti.specs.Strips.{Drops, StaysAtTurn}
+use Rattle.graphiti.specs.Bypass.{IsFedBuffer}
+use Rattle.graphiti.proofs.Lookups.{port_total, port_same, get_inserted, get_retained}
+use Rattle.graphiti.proofs.Dropping.{Bypasses, buffer_at, buffer_output, drops_bypasses, typed_after}
+use Rattle.graphiti.proofs.NodesById.{same_id, node_without, names_apart, live_by_name, feeds_by_id}
+
+-- By names
+
+near_source : (a : Bool) {X : Type 0} (o : Option X) (b : Bool) → b ≡ true → cond (not (a || b)) o None ≡ None
+near_source true o b e = refl
+near_source false o b e = ap (λ t. cond (not t) o None) e
+
+near_target : {X : Type 0} (a b : Bool) (o : Option X) (x : X) → cond (not (a || b)) o None ≡ Some x → (a ≡ false) × (o ≡ Some x)
+near_target true b o x e = absurd (none-some x e)
+near_target false true o x e = absurd (none-some x e)
+near_target false false o x e = (refl, e)
+
+module _ (g : NamedGraph) (typed : IsTyped g) (name : Name) (source target : Port) (buffer : IsBuffer g name) (fed : map.get g.feeders (first_port name) ≡ Some source) (feeds : map.get g.feeders target ≡ Some (first_port name)) (other : source.node ≢ name) where
+  after : NamedGraph
+  after = with_wire (without_node g name) source target
+
+  pub drops : (h : NamedGraph) → h ≡ with_wire (without_node g name) source target → Drops g name h
+  drops h is = record { source = source; target = target; buffer = buffer; fed = fed; feeds = feeds; other = other; after = is }
+
+  past : Bypasses g name after
+  unfolding after
+  past = drops_bypasses g typed name after (drops after refl)
+
+  joined : map.get after.feeders target ≡ Some source
+  unfolding after
+  joined = get_inserted port_total port_same (without_node g name).feeders target source target refl
+
+  pub target_other : target.node ≢ name
+  target_other = (past.wire_from target source joined).0
+
+  wire : IsWire (without_node g name) source target
+  unfolding after
+  wire =
+      let w = (typed_after g typed name after past).wires target source joined in
+      record { from = w.from; to = w.to; shape = w.shape; is_from = w.is_from; is_to = w.is_to; leaves = w.leaves; enters = w.enters }
+
+  feeder_left : (p : Port) → map.get (without_node g name).feeders p ≡ cond (not (is_of name (Some p) || is_of name (map.get g.feeders p))) (map.get g.feeders p) None
+  feeder_left p = get_retained port_total port_same g.feeders _ p
+
+  itself : bytes_eq name name ≡ true
+  itself = (bytes_eq-Decides name name).1 refl
+
+  source_free : (p : Port) → map.get (without_node g name).feeders p ≢ Some source
+  source_free p wired =
+      let far = near_target (is_of name (Some p)) (is_of name (map.get g.feeders p)) (map.get g.feeders p) source (sym (feeder_left p) ∙ wired) in
+      let first : p ≡ first_port name = typed.once p (first_port name) source far.1 fed in
+      true≢false (sym itself ∙ ap (λ (z : Port). bytes_eq z.node name) (sym first) ∙ far.0)
+
+  -- without the Buffer the wire can be added
+  pub can_join : CanWire (without_node g name) source target
+  can_join =
+      record {
+        wire = wire;
+        target_free = feeder_left target ∙ near_source (is_of name (Some target)) (map.get g.feeders target) (is_of name (map.get g.feeders target)) (ap (is_of name) feeds ∙ itself);
+        source_free = source_free;
+      }
+
+
+pub buffer_feeds : (g : NamedGraph) → IsTyped g → (name : Name) → IsBuffer g name → (target : Port) × (map.get g.feeders target ≡ Some (first_port name))
+buffer_feeds g typed name buffer =
+    let b = buffer_at g name buffer in
+    typed.outputs (first_port name) b.body b.shape b.is (ap (λ kind. port_get (outs kind) 1) b.kind)
+
+-- By ids
+
+some_in : {X : Type 0} (o : Option X) → IsSome o → (x : X) × (o ≡ Some x)
+some_in None some = absurd (true≢false (sym some))
+some_in (Some x) some = (x, refl)
+
+-- h is g without the node of this id
+pub record Removal (g : GraphValue) (id : NodeId) (h : GraphValue) : Type 0 where
+  pub removed : Option Node
+  pub node : removed ≡ node_at g id
+  pub gone : h ≡ without_slot g id
+  pub names : IfSome removed (λ node. by_names h ≡ without_node (by_names g) node.name)
+
+module _ (g : GraphValue) (typed : IsTyped (by_names g)) (id : NodeId) (source : PortAt) (is : IsFedBuffer g id source) (h : GraphValue) (removal : Removal g id h) (port : PortAt) (first : port ≡ record { node = id; port = 1 }) where
+  without : by_names h ≡ without_node (by_names g) is.node.name
+  without = subst (λ found. IfSome found (λ node. by_names h ≡ without_node (by_names g) node.name)) (removal.node ∙ is.at) removal.names
+
+  apart : (other : NodeId) (node : Node) → node_at g other ≡ Some node → other ≢ id → node.name ≢ is.node.name
+  apart = names_apart g id is.node.name (ap by_names (sym removal.gone) ∙ without)
+
+  first_named : port_named g port ≡ first_port is.node.name
+  first_named = ap (port_named g) first ∙ (λ i. record { node = name_of (is.at i); port = 1 })
+
+  -- the Buffer's output stands on a wire
+  pub feeds_some : ((target : PortAt) → map.get g.feeders target ≢ Some port) → ⊥
+  feeds_some none =
+      let (to, feeds) = buffer_feeds (by_names g) typed is.node.name is.buffer in
+      let f = feeds_by_id g to (first_port is.node.name) feeds in
+      let (node, live, same) = live_by_name (node_at g f.output.node) is.node.name is.right (ap (λ (p : Port). p.node) f.is_named) in
+      elim (cases_eq (index_of f.output.node) (index_of id)) [
+        | inl e ↦
+            let at : f.output ≡ record { node = id; port = 1 } = λ i. record { node = same_id f.output.node id e i; port = ap (λ (p : Port). p.port) f.is_named i } in
+            none f.target (f.wired ∙ ap Some (at ∙ sym first))
+        | inr e ↦ apart f.output.node node live (λ same. e (ap index_of same)) same
+      ]
+
+  kept : (other : NodeId) → other ≢ id → node_at h other ≡ node_at g other
+  kept other apart = ap (λ z. node_at z other) removal.gone ∙ node_without g id other apart
+
+  port_kept : (p : PortAt) → p.node ≢ id → port_named h p ≡ port_named g p
+  port_kept p apart = λ i. record { node = name_of (kept p.node apart i); port = p.port }
+
+  source_other : (port_named g source).node ≢ is.node.name
+  source_other same =
+      let (node, live) = some_in (node_at g source.node) is.live in
+      apart source.node node live is.other (ap name_of (sym live) ∙ same)
+
+  pub source_live : IsSome (node_at h source.node)
+  source_live = subst IsSome (sym (kept source.node is.other)) is.live
+
+  module _ (target : PortAt) (wired : map.get (by_names g).feeders (port_named g target) ≡ Some (port_named g port)) where
+    feeds : map.get (by_names g).feeders (port_named g target) ≡ Some (first_port is.node.name)
+    feeds = wired ∙ ap Some first_named
+
+    apart_target : target.node ≢ id
+    apart_target same =
+        target_other (by_names g) typed is.node.name (port_named g source) (port_named g target) is.buffer is.fed feeds source_other (ap (λ other. name_of (node_at g other)) same ∙ ap name_of is.at)
+
+    pub target_live : IsSome (node_at g target.node) → IsSome (node_at h target.node)
+    target_live = subst IsSome (sym (kept target.node apart_target))
+
+    pub can_join_ids : CanWire (by_names h) (port_named h source) (port_named h target)
+    can_join_ids =
+        subst (λ z. CanWire z (port_named h source) (port_named h target)) (sym without)
+        (subst (λ p. CanWire (without_node (by_names g) is.node.name) p (port_named h target)) (sym (port_kept source is.other))
+        (subst (λ p. CanWire (without_node (by_names g) is.node.name) (port_named g source) p) (sym (port_kept target apart_target))
+        (can_join (by_names g) typed is.node.name (port_named g source) (port_named g target) is.buffer is.fed feeds source_other)))
+
+    pub dropped : (k : GraphValue) → by_names k ≡ with_wire (by_names h) (port_named h source) (port_named h target) → IfSome (node_at g id) (λ node. Drops (by_names g) node.name (by_names k))
+    dropped k joined =
+        let same : by_names k ≡ with_wire (without_node (by_names g) is.node.name) (port_named g source) (port_named g target) =
+          joined ∙ (λ i. with_wire (without i) (port_kept source is.other i) (port_kept target apart_target i)) in
+        subst (λ found. IfSome found (λ node. Drops (by_names g) node.name (by_names k))) (sym is.at)
+        (drops (by_names g) typed is.node.name (port_named g source) (port_named g target) is.buffer is.fed feeds source_other (by_names k) same)
+
+    pub others_kept : (k : GraphValue) → k ≡ with_feeder h source target → (other : NodeId) → other ≢ id → node_at k other ≡ node_at g other
+    others_kept k joined other apart = ap (λ z. node_at z other) joined ∙ kept other apart
+
+module _ (g : GraphValue) (typed : IsTyped (by_names g)) (id : NodeId) (node : Node) (at : node_at g id ≡ Some node) (shape : Shape) (kind : node.kind ≡ Buffer shape) (body : IfSome (node_at g id) (λ node. map.get (by_names g).nodes node.name ≡ Some (body_of node))) (port : PortAt) (first : port ≡ record { node = id; port = 1 }) where
+  found : map.get (by_names g).nodes node.name ≡ Some (body_of node)
+  found = subst (λ there. IfSome there (λ node. map.get (by_names g).nodes node.name ≡ Some (body_of node))) at body
+
+  is_buffer : IsBuffer (by_names g) node.name
+  is_buffer = subst (λ there. IsSomeAnd there (λ body. IsBufferKind body.kind)) (sym found) (subst IsBufferKind (sym kind) tt)
+
+  is_first : port_named g port ≡ first_port node.name
+  is_first = ap (port_named g) first ∙ (λ i. record { node = name_of (at i); port = 1 })
+
+  live : IsSome (node_at g port.node)
+  live = ap (λ (p : PortAt). is_some (node_at g p.node)) first ∙ ap is_some at
+
+  module _ (fed : Option PortAt) (names : IsSome (node_at g port.node) → option_map (port_named g) fed ≡ map.get (by_names g).feeders (port_named g port)) where
+    feeder : map.get (by_names g).feeders (first_port node.name) ≡ option_map (port_named g) fed
+    feeder = sym (ap (map.get (by_names g).feeders) is_first) ∙ sym (names live)
+
+    -- the Buffer's input stands on a wire
+    pub fed_some : fed ≢ None
+    fed_some none =
+        let (source, wired) = typed.inputs (first_port node.name) (body_of node) shape found (ap (λ kind. port_get (ins kind) 1) kind) in
+        none-some source (sym (ap (option_map (port_named g)) none) ∙ sym feeder ∙ wired)
+
+    -- a Buffer that its own output feeds stays
+    pub stays_itself : (source : PortAt) → fed ≡ Some source → source.node ≡ id → IfSome (node_at g id) (λ node. StaysAtTurn (by_names g) node.name)
+    stays_itself source is same =
+        let wired : map.get (by_names g).feeders (first_port node.name) ≡ Some (port_named g source) = feeder ∙ ap (option_map (port_named g)) is in
+        let own : (port_named g source).node ≡ node.name = ap (λ other. name_of (node_at g other)) same ∙ ap name_of at in
+        let itself : port_named g source ≡ first_port node.name = buffer_output (by_names g) typed node.name is_buffer (first_port node.name) (port_named g source) wired own in
+        subst (λ there. IfSome there (λ node. StaysAtTurn (by_names g) node.name)) (sym at) (inr (wired ∙ ap Some itself))

@@ -1,0 +1,10 @@
+-- The turns of all nodes in order strip the graph.
+use Rattle.graph_core.specs.GraphValue.{by_names}
+use Rattle.graphiti.proofs.Stripping.{turns_strip}
+use Rattle.graphiti.proofs.strip.strip.Goals as goal
+
+pub returns-clause-stripped : goal.returns-clause-stripped
+returns-clause-stripped c = (turns_strip (by_names c.args.g) (by_names c.drop_buffers.new.g) c.requires c.in_ok-drop_buffers.ensures).0
+
+pub returns-clause-typed : goal.returns-clause-typed
+returns-clause-typed c = (turns_strip (by_names c.args.g) (by_names c.drop_buffers.new.g) c.requires c.in_ok-drop_buffers.ensures).1

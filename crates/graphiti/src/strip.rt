@@ -1,0 +1,91 @@
+//! Dropping the Buffers of a graph.
+ghost use Rattle.std.specs.Prelude.{◌≡◌, ◌≢◌, IfOk, OnOk, IfSome, IfNone};
+ghost use Rattle.std.specs.FinMap as map_of;
+ghost use Rattle.graph_core.specs.NamedGraph.{IsTyped};
+ghost use Rattle.graph_core.specs.GraphValue.{by_names, node_at};
+ghost use Rattle.graphiti.specs.Stripped.{IsStripped};
+ghost use Rattle.graphiti.specs.Strips.{Drops, StaysAtTurn, Turn, Turns};
+ghost use Rattle.graphiti.specs.Bypass.{IsFedBuffer};
+ghost use Rattle.graphiti.specs.PrintedGraph.{AreInOrder};
+
+use graph_core::{AddWire, Graph, Kind, NodeId, PortAt};
+use port_types::NoMemory;
+use std::alloc::Global;
+
+/// The stripped graph: without Buffers, but that each ring made of Buffers alone leaves the one with the greatest name, wired to
+/// itself. The Buffers are dropped in byte order of their names, each unless it is wired to itself at its turn. The only error is
+/// want of memory; the graph is then given up.
+pub fn strip(alloc: Global, mut g: Graph) -> Result<Graph, NoMemory>
+    requires { IsTyped (by_names g) }
+    ensures stripped { IfOk result (λ stripped. IsStripped (by_names g) (by_names stripped)) }
+    ensures typed { IfOk result (λ stripped. IsTyped (by_names stripped)) }
+{
+    let ids = g.by_name(alloc)?;
+    drop_buffers(&mut g, &ids)?;
+    Ok(g)
+}
+
+/// Gives each node its turn, in the order of the ids.
+fn drop_buffers(g: &mut Graph, ids: &[NodeId]) -> Result<(), NoMemory>
+    requires typed { IsTyped (by_names g.old) }
+    requires order { AreInOrder g.old ids.now }
+    ensures { OnOk result (Turns (by_names g.old) (map_of.keys (by_names g.old).nodes) (by_names g.new)) }
+{
+    for id in ids {
+        drop_buffer(g, *id)?;
+    }
+    Ok(())
+}
+
+/// Drops the node if it is a Buffer that is not wired to itself: what fed it then feeds what it fed.
+fn drop_buffer(g: &mut Graph, id: NodeId) -> Result<(), NoMemory>
+    requires { IsTyped (by_names g.old) }
+    ensures turn { OnOk result (IfSome (node_at g.old id) (λ node. Turn (by_names g.old) node.name (by_names g.new))) }
+    ensures others { OnOk result ((other : NodeId) → other ≢ id → node_at g.new other ≡ node_at g.old other) }
+{
+    match buffer_source(g, id) {
+        Some(source) => bypass(g, id, source),
+        None => Ok(()),
+    }
+}
+
+/// What feeds the node, where it is a Buffer that is not wired to itself.
+fn buffer_source(g: &Graph, id: NodeId) -> Option<PortAt>
+    requires { IsTyped (by_names g.now) }
+    ensures fed { IfSome result (IsFedBuffer g.now id) }
+    ensures stays { IfNone result (IfSome (node_at g.now id) (λ node. StaysAtTurn (by_names g.now) node.name)) }
+{
+    let Kind::Buffer(_) = g.node(id)?.kind else {
+        return None;
+    };
+    let source = g.wire_into(first_port(id))?;
+    if source.node == id {
+        None
+    } else {
+        Some(source)
+    }
+}
+
+/// Takes the Buffer out, and joins what fed it to what it fed.
+fn bypass(g: &mut Graph, id: NodeId, source: PortAt) -> Result<(), NoMemory>
+    requires typed { IsTyped (by_names g.old) }
+    requires fed { IsFedBuffer g.old id source }
+    ensures dropped { OnOk result (IfSome (node_at g.old id) (λ node. Drops (by_names g.old) node.name (by_names g.new))) }
+    ensures others { OnOk result ((other : NodeId) → other ≢ id → node_at g.new other ≡ node_at g.old other) }
+{
+    let fed = g.wire_from(first_port(id));
+    let _ = g.remove_node(id);
+    let Some(target) = fed else { unreachable!() };
+    match g.add_wire(source, target) {
+        Ok(()) => Ok(()),
+        Err(AddWire::NoMemory) => Err(NoMemory),
+        Err(AddWire::UnknownPort | AddWire::PortTaken | AddWire::ShapeDiffers) => unreachable!(),
+    }
+}
+
+/// The only input of a Buffer, and its only output.
+fn first_port(node: NodeId) -> PortAt
+    ensures { result ≡ record { node = node; port = 1 } }
+{
+    PortAt { node, port: 1 }
+}
