@@ -1,5 +1,5 @@
 -- The lists of nodes and wires after a change stand for the changed graph.
-use Rattle.std.proofs.Common.{◌≡◌, ◌≢◌, ℕ, Bool, true, false, cond, not, ◌||◌, List, [], ◌∷◌, ◌++◌, Option, Some, None, IsSome, is_some, slice_get, slice_set, refl, sym, ap, subst, ◌∙◌, true≢false}
+use Rattle.std.proofs.Common.{◌≡◌, Bool, true, false, cond, not, ◌||◌, List, [], ◌∷◌, ◌++◌, Option, Some, None, IsSome, is_some, slice_get, slice_set, refl, sym, ap, ◌∙◌, true≢false}
 use Rattle.std.proofs.lemmas.Bool.{eqb-true}
 use Rattle.std.specs.FinMap as map
 use Rattle.port_types.specs.declared.side.Side.TheVariants.{Ins, Outs}
@@ -7,9 +7,9 @@ use Rattle.graph_core.specs.declared.node.Node.{Node}
 use Rattle.graph_core.specs.declared.place.NodeId.{NodeId}
 use Rattle.graph_core.specs.declared.place.PortAt.{PortAt}
 use Rattle.graph_core.specs.declared.wires.Wire.{Wire}
-use Rattle.graph_core.specs.Place.{place_cmp, index_of}
-use Rattle.graph_core.specs.GraphValue.{GraphValue, IsGraph, flat, node_at, is_at, with_slot, with_feeder, without_slot}
-use Rattle.graph_core.specs.Inside.{value_of, feeder_list, AreApart, IsNamedAt}
+use Rattle.graph_core.specs.Place.{place_cmp}
+use Rattle.graph_core.specs.GraphValue.{GraphValue, IsGraph, flat, node_at, is_at, with_feeder, without_slot}
+use Rattle.graph_core.specs.Inside.{value_of, feeder_list, AreApart}
 use Rattle.graph_core.proofs.SlotLists.{emptied_dead}
 use Rattle.graph_core.proofs.Finding.{live_where_shaped}
 use Rattle.graph_core.proofs.Orders.{place_total, place_same}

@@ -1,5 +1,5 @@
 -- What keeps a wire out, from what the ports' look-ups answer.
-use Rattle.std.proofs.Common.{◌≡◌, ◌≢◌, ℕ, Bool, true, false, cond, ◌&&◌, ◌||◌, ◌==◌, List, [], ◌∷◌, Option, Some, None, IsSome, is_some, T, bytes_eq, refl, sym, ap, subst, ◌∙◌, true≢false}
+use Rattle.std.proofs.Common.{◌≡◌, ◌≢◌, Bool, true, false, cond, ◌&&◌, ◌||◌, ◌==◌, List, [], ◌∷◌, Option, Some, None, is_some, T, bytes_eq, refl, sym, ap, ◌∙◌, true≢false}
 use Rattle.std.proofs.lemmas.Bool.{eqb-true, eq-eqb, and_parts, and_from}
 use Rattle.std.proofs.lemmas.Slice.Eq.{bytes_eq-Decides}
 use Rattle.std.specs.List.{list_any}
@@ -10,14 +10,13 @@ use Rattle.std.specs.declared.cmp.Ordering.{Ordering}
 use Rattle.std.specs.declared.cmp.Ordering.TheVariants.{Less, Equal, Greater}
 use Rattle.port_types.specs.declared.side.Side.TheVariants.{Ins, Outs}
 use Rattle.graph_core.specs.declared.place.PortAt.{PortAt}
-use Rattle.graph_core.specs.declared.graph.AddWire.{AddWire}
 use Rattle.graph_core.specs.declared.graph.AddWire.TheVariants.{PortTaken, ShapeDiffers}
 use Rattle.graph_core.specs.Place.{place_cmp}
 use Rattle.graph_core.specs.Kind.{Shape}
 use Rattle.graph_core.specs.GraphValue.{GraphValue, shape_at, feeds}
 use Rattle.graph_core.specs.Wiring.{wire_fault, fault_between, is_taken}
 use Rattle.graph_core.proofs.SlotLists.{same_Some, not_None, none_by}
-use Rattle.graph_core.proofs.WireLists.{here, same_place, other_place, not_true}
+use Rattle.graph_core.proofs.WireLists.{here, same_place, not_true}
 
 first : (a b : Bool) → T (a && b) → T a
 first true b h = tt

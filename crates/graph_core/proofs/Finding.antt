@@ -1,5 +1,5 @@
 -- What looking up in a graph answers, by slots and by names.
-use Rattle.std.proofs.Common.{◌≡◌, ◌≢◌, ℕ, Bool, true, false, cond, List, Option, Some, None, IsSome, IfSome, IfNone, is_some, refl, sym, ap, subst, ◌∙◌, true≢false}
+use Rattle.std.proofs.Common.{◌≡◌, false, List, Option, Some, None, IsSome, IfSome, IfNone, is_some, refl, sym, ap, subst, true≢false}
 use Rattle.std.specs.Option.{option_map}
 use Rattle.std.specs.FinMap as map
 use Rattle.port_types.specs.declared.side.Side.{Side}
@@ -15,7 +15,6 @@ use Rattle.graph_core.specs.GraphValue.{GraphValue, IsGraph, HasName, node_at, s
 use Rattle.graph_core.specs.Inside.{value_of, feeder_list}
 use Rattle.graph_core.proofs.Orders.{place_total}
 use Rattle.graph_core.proofs.ByNames.{node_found, node_behind, wire_found, wire_none}
-use Rattle.graph_core.proofs.SlotLists.{if_some}
 
 -- the list of wires answers as the map of feeders
 pub lookup_is : (slots : List (Option Node)) (wires : List Wire) (target : PortAt) → map.find place_cmp target (feeder_list wires) ≡ map.get (value_of slots wires).feeders target

@@ -1,5 +1,5 @@
 -- A tree of names and ids holds the entries of the graph by names.
-use Rattle.std.proofs.Common.{◌≡◌, ◌≢◌, ℕ, zero, suc, ◌+◌, ◌<◌, ◌≤◌, Bool, true, false, cond, List, [], ◌∷◌, ◌++◌, length, map, take, Option, Some, None, Bor, slice_get, get_or, refl, sym, ap, subst, ◌∙◌, arith, true≢false, add-one, append-nil, take_all}
+use Rattle.std.proofs.Common.{◌≡◌, ℕ, zero, suc, ◌+◌, ◌<◌, ◌≤◌, Bool, true, false, cond, List, [], ◌∷◌, ◌++◌, length, map, take, Option, Some, None, Bor, slice_get, refl, sym, ap, subst, ◌∙◌, arith, true≢false, add-one, append-nil, take_all}
 use Rattle.std.specs.Option.{option_map}
 use Rattle.std.specs.Ordering.{nat_cmp, eq_by_cmp, is_eq, match_ordering}
 use Rattle.std.specs.Cmp.Lexicographic.{slice_cmp}
@@ -15,7 +15,7 @@ use Rattle.graph_core.specs.Node.{Body, body_of}
 use Rattle.graph_core.specs.GraphValue.{flat, named, named_nodes}
 use Rattle.graph_core.specs.Inside.{IsNamedAt, AreNamedApart}
 use Rattle.graph_core.proofs.Orders.{name_total, name_same}
-use Rattle.graph_core.proofs.SlotLists.{same_Some, not_None}
+use Rattle.graph_core.proofs.SlotLists.{not_None}
 
 -- the order of names behind references
 abbrev pub ref_cmp : Bor (List ℕ) → Bor (List ℕ) → Ordering

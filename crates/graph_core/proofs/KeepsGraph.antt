@@ -1,5 +1,5 @@
 -- What the changes of a graph keep: that it is one.
-use Rattle.std.proofs.Common.{◌≡◌, ◌≢◌, ◌⊎◌, inl, inr, ℕ, zero, suc, ◌+◌, ◌<◌, ◌≤◌, Bool, true, false, cond, not, ◌||◌, List, [], ◌∷◌, ◌++◌, length, Option, Some, None, IsSome, IfSome, slice_get, slice_set, refl, sym, ap, subst, ◌∙◌, arith, true≢false}
+use Rattle.std.proofs.Common.{◌≡◌, ◌≢◌, ◌⊎◌, inl, inr, Bool, true, false, cond, not, ◌||◌, [], Option, Some, None, refl, sym, ap, subst, ◌∙◌, true≢false}
 use Rattle.std.proofs.lemmas.Bool.{eq-eqb}
 use Rattle.std.specs.FinMap as map
 use Rattle.std.specs.Ordering.{eq_by_cmp}
@@ -8,7 +8,7 @@ use Rattle.port_types.specs.declared.side.Side.TheVariants.{Ins, Outs}
 use Rattle.graph_core.specs.declared.node.Node.{Node}
 use Rattle.graph_core.specs.declared.place.NodeId.{NodeId}
 use Rattle.graph_core.specs.declared.place.PortAt.{PortAt}
-use Rattle.graph_core.specs.Place.{place_cmp, index_of}
+use Rattle.graph_core.specs.Place.{place_cmp}
 use Rattle.graph_core.specs.Name.{Name}
 use Rattle.graph_core.specs.Kind.{Shape}
 use Rattle.graph_core.specs.Node.{NodeOk}
@@ -16,7 +16,7 @@ use Rattle.graph_core.specs.GraphValue.{GraphValue, IsGraph, HasName, node_at, s
 use Rattle.graph_core.specs.Wiring.{wire_fault}
 use Rattle.graph_core.proofs.Orders.{place_total, place_same}
 use Rattle.graph_core.proofs.SlotLists.{same_Some, not_None, pushed_old, pushed_either, emptied_other, emptied_old}
-use Rattle.graph_core.proofs.WireLists.{same_place, other_place, here}
+use Rattle.graph_core.proofs.WireLists.{same_place}
 use Rattle.graph_core.proofs.Faults.{Fitting, fitting}
 
 no_feeder : (target source : PortAt) → map.get (map.empty {R = place_cmp}) target ≡ Some source → ⊥

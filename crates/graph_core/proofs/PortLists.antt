@@ -1,5 +1,5 @@
 -- What stands at a port where all ports of a side have one shape.
-use Rattle.std.proofs.Common.{◌≡◌, ℕ, zero, suc, ◌≤◌, ◌<◌, ◌⊎◌, inl, inr, Option, Some, None, replicate, refl, arith}
+use Rattle.std.proofs.Common.{◌≡◌, ℕ, zero, suc, ◌≤◌, ◌<◌, ◌⊎◌, inl, inr, Some, None, replicate, refl, arith}
 use Rattle.graph_core.specs.Name.{port_get}
 
 pub port_get-replicate : {A : Type 0} (n i : ℕ) (x : A) → 1 ≤ i → i ≤ n → port_get (replicate n x) i ≡ Some x

@@ -9,7 +9,7 @@ use Rattle.graph_core.specs.declared.place.NodeId.{NodeId}
 use Rattle.graph_core.specs.declared.place.PortAt.{PortAt}
 use Rattle.graph_core.specs.Place.{index_of, id_of, place_cmp}
 use Rattle.graph_core.specs.Name.{Name, Port, port_get}
-use Rattle.graph_core.specs.Kind.{Shape, ins, outs, ports}
+use Rattle.graph_core.specs.Kind.{Shape, ports}
 use Rattle.graph_core.specs.Node.{NodeOk, Body, body_of}
 use Rattle.graph_core.specs.NamedGraph.{NamedGraph}
 

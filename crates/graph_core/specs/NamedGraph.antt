@@ -1,5 +1,5 @@
 -- A graph by names: a set of nodes and a set of wires.
-use Rattle.std.specs.Prelude.{◌≡◌, ◌≢◌, ℕ, Bool, false, not, ◌||◌, Option, Some, None, bytes_eq}
+use Rattle.std.specs.Prelude.{◌≡◌, ◌≢◌, Bool, false, not, ◌||◌, Option, Some, None, bytes_eq}
 use Rattle.std.specs.FinMap as map
 use Rattle.graph_core.specs.Name.{Name, Port, name_cmp, port_cmp, port_get, IsName}
 use Rattle.graph_core.specs.Kind.{Shape, ins, outs, KindOk}

@@ -1,4 +1,4 @@
-use Rattle.std.proofs.Common.{◌≡◌, ◌∙◌, ◌+◌, [], Some, None, map, slice_get, length, rules, sym, ap, subst, arith}
+use Rattle.std.proofs.Common.{◌≡◌, ◌∙◌, ◌+◌, [], Some, None, map, slice_get, rules, sym, ap, subst, arith}
 use Rattle.graph_core.specs.GraphValue.{flat}
 use Rattle.graph_core.proofs.SlotLists.{slot_at}
 use Rattle.graph_core.proofs.InOrder.{Matches, Matches-node, Matches-values, ref_cmp, so_far, so_far-none, so_far-nothing, so_far-all}

@@ -1,8 +1,7 @@
-use Rattle.std.proofs.Common.{◌≡◌, ◌∙◌, ◌∷◌, [], ◌++◌, Some, None, rules, sym, ap, subst}
+use Rattle.std.proofs.Common.{◌≡◌, ◌∙◌, ◌∷◌, [], ◌++◌, None, rules, sym, ap, subst}
 use Rattle.std.specs.FinMap as map
 use Rattle.graph_core.specs.Place.{place_cmp}
 use Rattle.graph_core.specs.GraphValue.{IsGraph, by_names, with_feeder}
-use Rattle.graph_core.specs.Wiring.{wire_fault}
 use Rattle.graph_core.specs.Inside.{value_of, feeder_list, AreApart}
 use Rattle.graph_core.proofs.Faults.{fitting}
 use Rattle.graph_core.proofs.Finding.{lookup_is}

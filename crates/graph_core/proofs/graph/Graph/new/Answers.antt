@@ -1,8 +1,3 @@
-use Rattle.std.proofs.Common.{List, ◌≡◌, ◌∙◌, [], sym, subst, ap}
-use Rattle.std.specs.FinMap as map
-use Rattle.graph_core.specs.GraphValue.{by_names, IsGraph}
-use Rattle.graph_core.specs.Inside.{value_of, feeder_list, AreApart}
-use Rattle.graph_core.specs.NamedGraph.{no_graph}
 use Rattle.graph_core.proofs.ByNamesAfter.{by_names-empty}
 use Rattle.graph_core.proofs.KeepsGraph.{IsGraph-empty}
 use Rattle.graph_core.proofs.graph.Graph.new.Goals as goal

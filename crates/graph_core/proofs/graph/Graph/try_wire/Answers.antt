@@ -1,6 +1,4 @@
-use Rattle.std.proofs.Common.{◌≡◌, ◌≢◌, ◌∙◌, Some, None, rules, sym, ap, is_some, arith}
-use Rattle.std.specs.FinMap as map
-use Rattle.graph_core.specs.declared.place.PortAt.{PortAt}
+use Rattle.std.proofs.Common.{◌∙◌, rules, sym, ap, is_some}
 use Rattle.graph_core.proofs.SlotLists.{at_some, at_none, none_by, some_by}
 use Rattle.graph_core.proofs.Faults.{Shaped, fault_into, fault_from, fault_none, fault_shape}
 use Rattle.graph_core.proofs.graph.Graph.try_wire.Goals as goal

@@ -1,6 +1,6 @@
-use Rattle.std.proofs.Common.{◌≡◌, ◌∙◌, Some, sym, ap, subst}
+use Rattle.std.proofs.Common.{◌∙◌, sym, ap, subst}
 use Rattle.std.specs.FinMap as map
-use Rattle.graph_core.specs.GraphValue.{IsGraph, node_at}
+use Rattle.graph_core.specs.GraphValue.{IsGraph}
 use Rattle.graph_core.specs.Place.{place_cmp}
 use Rattle.graph_core.specs.Inside.{feeder_list}
 use Rattle.port_types.specs.declared.side.Side.TheVariants.{Outs}
