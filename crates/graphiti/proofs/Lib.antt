@@ -14,3 +14,9 @@ pub mod Names
 pub mod Pairs
 pub mod Ports
 pub mod Answering
+pub mod NodesById
+pub mod Bypassing
+pub mod TurnsById
+pub mod WiresInto
+pub mod WholeText
+pub mod Small

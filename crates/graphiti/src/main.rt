@@ -2,11 +2,13 @@
 //! All that it does is `run`; here the real streams are made and the status is passed on.
 #![tactic(auto)]
 
+mod laws;
 mod lines;
 mod lines_out;
 mod printer;
 mod reader;
 mod run;
+mod small_text;
 mod status;
 mod strip;
 #[cfg(test)]

@@ -5,7 +5,10 @@ ghost use Rattle.graphiti.specs.Status.{line_of};
 ghost use Rattle.graphiti.specs.SmallText.{IsSmallText};
 ghost use Rattle.graphiti.specs.Answer.{max_input, IsStrip, StripsText, WritesAnswer, WritesFront, WritesFrontOf, ReadsOther, Responds};
 
+use crate::printer::text_of;
+use crate::small_text::read_small;
 use crate::status::Status;
+use crate::strip::strip;
 use gx_base::{ReadAllFault, Sink, Source, read_all, write_all};
 use port_types::NoMemory;
 use std::alloc::Global;
@@ -115,7 +118,10 @@ fn strip_text(alloc: Global, bytes: &[u8]) -> Result<Option<Vec<u8>>, NoMemory>
     ensures text { IfOk result (λ found. IfSome found (λ text. StripsText bytes.now text.items)) }
     ensures none { IfOk result (λ found. IfNone found (¬ (IsSmallText bytes.now))) }
 {
-    let _ = alloc;
-    let _ = bytes.len();
-    Err(NoMemory)
+    let Some(g) = read_small(alloc, bytes)? else {
+        return Ok(None);
+    };
+    let stripped = strip(alloc, g)?;
+    let text = text_of(alloc, &stripped)?;
+    Ok(Some(text))
 }
