@@ -1,11 +1,11 @@
 -- Plain nodes, and plain graphs that gain one.
-use Rattle.std.proofs.Common.{◌≡◌, ◌⊎◌, inl, inr, Some, refl, sym, ap, subst, ◌∙◌, length}
+use Rattle.std.proofs.Common.{◌≡◌, ◌⊎◌, inl, inr, Option, Some, None, refl, sym, ap, subst, ◌∙◌, length}
 use Rattle.std.specs.FinMap as map
 use Rattle.graph_core.specs.declared.kind.Kind.{Kind}
 use Rattle.graph_core.specs.declared.node.Node.{Node}
 use Rattle.graph_core.specs.Name.{Name, name_cmp, IsName}
 use Rattle.graph_core.specs.Node.{Body, body_of}
-use Rattle.graph_core.specs.NamedGraph.{NamedGraph, with_node}
+use Rattle.graph_core.specs.NamedGraph.{NamedGraph, no_graph, with_node}
 use Rattle.graphiti.specs.declared.lines.SmallKind.{SmallKind}
 use Rattle.graphiti.specs.declared.lines.SmallKind.TheVariants.{Entry, Exit, Buffer, Fork}
 use Rattle.graphiti.specs.SmallText.{HasOneField}
@@ -41,4 +41,17 @@ IsPlain-with_node g name small is_name plain = record {
   names = each_more (λ q w. IsName q) g.nodes name (plain_body (kind_of small)) plain.names is_name;
   one_field = each_more (λ q w. HasOneField w.kind) g.nodes name (plain_body (kind_of small)) plain.one_field (HasOneField-kind_of small);
   nothing_kept = each_more (λ q w. w.kept ≡ map.empty) g.nodes name (plain_body (kind_of small)) plain.nothing_kept refl;
+}
+
+some_is_not_none : (body : Body) → ◌≡◌ {A = Option Body} (Some body) None → ⊥
+some_is_not_none body e = absurd (cc)
+
+none_there : (name : Name) (body : Body) (P : Type 0) → map.get (no_graph).nodes name ≡ Some body → P
+none_there name body P found = absurd (some_is_not_none body (sym found ∙ map.get-empty name_cmp name))
+
+pub IsPlain-no_graph : IsPlain no_graph
+IsPlain-no_graph = record {
+  names = λ name body found. none_there name body (IsName name) found;
+  one_field = λ name body found. none_there name body (HasOneField body.kind) found;
+  nothing_kept = λ name body found. none_there name body (body.kept ≡ map.empty) found;
 }

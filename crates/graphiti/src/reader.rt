@@ -1,6 +1,6 @@
 //! Reading small texts: a graph is made of the lines, whatever they say.
 
-ghost use Rattle.std.specs.Prelude.{◌≡◌, ◌++◌, List, ℕ, [], ◌∷◌, codes, IsTrue, IfOk, IfSome, IsSomeAnd, MatchOption};
+ghost use Rattle.std.specs.Prelude.{◌≡◌, ◌++◌, List, ℕ, [], ◌∷◌, None, codes, IsTrue, IfOk, IfSome, IsSomeAnd, MatchOption};
 ghost use Rattle.std.specs.List.{flat_map};
 ghost use Rattle.std.specs.Option.{option_map};
 ghost use Rattle.std.specs.FinMap as map_of;
@@ -87,4 +87,27 @@ fn add_node_line(alloc: Global, g: &mut Graph, line: NodeLine) -> Result<bool, N
         Err(AddNode::NameTaken) => Ok(false),
         Err(AddNode::NoMemory) => Err(NoMemory),
     }
+}
+
+/// Adds the nodes whose lines are at the front to a graph without nodes, and gives the bytes behind these lines; `None` where one
+/// may not stand in the graph. The graph then has the nodes before it.
+fn read_nodes<'a>(
+    alloc: Global,
+    g: &mut Graph,
+    bytes: &'a [u8],
+) -> Result<Option<&'a [u8]>, NoMemory>
+    requires { by_names g.old ≡ no_graph }
+    ensures feeders { (by_names g.new).feeders ≡ map_of.empty }
+    ensures plain { IsPlain (by_names g.new) }
+    ensures reads { (h : NamedGraph) (rest : List ℕ) → IsSmall h → node_at rest ≡ None → bytes.now ≡ flat_map node_line (map_of.entries h.nodes) ++ rest
+        → IfOk result (λ found. IsSomeAnd found (λ r. (r.now ≡ rest) × ((by_names g.new).nodes ≡ h.nodes))) }
+{
+    let mut rest = bytes;
+    while let Some((line, behind)) = node_at(rest) {
+        if !add_node_line(alloc, g, line)? {
+            return Ok(None);
+        }
+        rest = behind;
+    }
+    Ok(Some(rest))
 }
