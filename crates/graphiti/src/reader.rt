@@ -5,7 +5,7 @@ ghost use Rattle.std.specs.List.{flat_map};
 ghost use Rattle.std.specs.Option.{option_map};
 ghost use Rattle.std.specs.FinMap as map_of;
 ghost use Rattle.port_types.specs.Shape.{IsShape};
-ghost use Rattle.graph_core.specs.Name.{IsName};
+ghost use Rattle.graph_core.specs.Name.{IsName, Port};
 ghost use Rattle.graph_core.specs.Kind.{KindOk};
 ghost use Rattle.graph_core.specs.NamedGraph.{NamedGraph, CanWire, no_graph, with_node, with_wire};
 ghost use Rattle.graph_core.specs.GraphValue.{by_names};
@@ -105,6 +105,52 @@ fn read_nodes<'a>(
     let mut rest = bytes;
     while let Some((line, behind)) = node_at(rest) {
         if !add_node_line(alloc, g, line)? {
+            return Ok(None);
+        }
+        rest = behind;
+    }
+    Ok(Some(rest))
+}
+
+/// Adds the wire of a line, and answers whether it could be added. If not, or for want of memory, the graph is as it was.
+fn add_wire_line(g: &mut Graph, line: WireLine) -> Result<bool, NoMemory>
+    ensures nodes { (by_names g.new).nodes ≡ (by_names g.old).nodes }
+    ensures adds { let source : Port = record { node = line.entry.source.now; port = line.entry.output } in
+        let target : Port = record { node = line.entry.target.now; port = line.entry.input } in
+        CanWire (by_names g.old) source target → IfOk result (λ added. IsTrue added × (by_names g.new ≡ with_wire (by_names g.old) source target)) }
+{
+    let Some(source) = g.find(line.source) else {
+        return Ok(false);
+    };
+    let Some(target) = g.find(line.target) else {
+        return Ok(false);
+    };
+    let source = PortAt {
+        node: source,
+        port: line.output,
+    };
+    let target = PortAt {
+        node: target,
+        port: line.input,
+    };
+    match g.add_wire(source, target) {
+        Ok(()) => Ok(true),
+        Err(AddWire::NoMemory) => Err(NoMemory),
+        Err(_) => Ok(false),
+    }
+}
+
+/// Adds the wires whose lines are at the front, and gives the bytes behind these lines; `None` where one could not be added.
+/// The graph then has the wires before it.
+fn read_wires<'a>(g: &mut Graph, bytes: &'a [u8]) -> Result<Option<&'a [u8]>, NoMemory>
+    ensures nodes { (by_names g.new).nodes ≡ (by_names g.old).nodes }
+    ensures reads { (h : NamedGraph) (rest : List ℕ) → IsSmall h → (by_names g.old).nodes ≡ h.nodes → (by_names g.old).feeders ≡ map_of.empty → wire_at rest ≡ None
+        → bytes.now ≡ flat_map wire_line (map_of.entries h.feeders) ++ rest
+        → IfOk result (λ found. IsSomeAnd found (λ r. (r.now ≡ rest) × ((by_names g.new).feeders ≡ h.feeders))) }
+{
+    let mut rest = bytes;
+    while let Some((line, behind)) = wire_at(rest) {
+        if !add_wire_line(g, line)? {
             return Ok(None);
         }
         rest = behind;
