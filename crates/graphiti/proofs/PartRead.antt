@@ -4,13 +4,13 @@ use Rattle.std.specs.Cmp.{IsTotalOrder}
 use Rattle.std.specs.FinMap.{FinMap, IsAntisymmetric, entries, get, empty, insert, from_entries}
 use Rattle.graphiti.proofs.Entries.{from_entries-entries, get-entry, get-before_entry, from_entries-more, get-from_front}
 
--- two answers of a reader
+-- answers of a reader
 
-inside : {A : Type 0} (x y : A) → ◌≡◌ {A = Option A} (Some x) (Some y) → x ≡ y
-inside x y e = cc
+pub same_value : {A : Type 0} (x y : A) → ◌≡◌ {A = Option A} (Some x) (Some y) → x ≡ y
+same_value x y e = cc
 
 pub same_answer : {A B C : Type 0} (a a' : A) (b b' : B) (c c' : C) → ◌≡◌ {A = Option (A × B × C)} (Some (a, b, c)) (Some (a', b', c')) → (a ≡ a') × (b ≡ b') × (c ≡ c')
-same_answer a a' b b' c c' e = let parts = inside (a, b, c) (a', b', c') e in (λ i. (parts i).0, λ i. (parts i).1, λ i. (parts i).2)
+same_answer a a' b b' c c' e = let parts = same_value (a, b, c) (a', b', c') e in (λ i. (parts i).0, λ i. (parts i).1, λ i. (parts i).2)
 
 pub no_answer : {A : Type 0} (x : A) → ◌≡◌ {A = Option A} None (Some x) → ⊥
 no_answer x e = absurd (cc)

@@ -10,9 +10,9 @@ use Rattle.graph_core.specs.Node.{Body}
 use Rattle.graph_core.specs.NamedGraph.{NamedGraph, IsWire, CanWire}
 use Rattle.graphiti.specs.CanonicalText.{wire_line}
 use Rattle.graphiti.specs.SmallText.{IsSmall}
-use Rattle.graphiti.specs.SmallLine.{node_at, wire_at}
+use Rattle.graphiti.specs.SmallLine.{wire_at}
 use Rattle.graphiti.proofs.Lookups.{port_total, port_same}
-use Rattle.graphiti.proofs.SmallLines.{IsSmallWire, wire_at-wire_line, node_at-wire_line, node_at-end}
+use Rattle.graphiti.proofs.SmallLines.{IsSmallWire, wire_at-wire_line}
 use Rattle.graphiti.proofs.PartRead.{IsPartRead, IsAllRead, HasNext, same_answer, no_answer, get-part, read_cases}
 
 -- ports of small nodes
@@ -35,7 +35,7 @@ few_ins (Exit shape) = omega arith
 few_ins (Buffer shape) = omega arith
 few_ins (Fork shape count) = omega arith
 
-IsSmallWire-get : (h : NamedGraph) → IsSmall h → (target source : Port) → map.get h.feeders target ≡ Some source → IsSmallWire target source
+pub IsSmallWire-get : (h : NamedGraph) → IsSmall h → (target source : Port) → map.get h.feeders target ≡ Some source → IsSmallWire target source
 IsSmallWire-get h small target source there =
     let wire : IsWire h source target = small.typed.wires target source there in
     let entering : target.port ≤ length (ins wire.to.kind) = port_within (ins wire.to.kind) target.port wire.shape wire.enters in

@@ -157,3 +157,30 @@ fn read_wires<'a>(g: &mut Graph, bytes: &'a [u8]) -> Result<Option<&'a [u8]>, No
     }
     Ok(Some(rest))
 }
+
+/// The bytes behind the first line.
+#[tactic(auto, unfolding(crate::specs::SmallLine::literal_at))]
+fn behind_first_line(bytes: &[u8]) -> Option<&[u8]>
+    ensures { option_map (λ rest. rest.now) result ≡ literal_at (codes "digraph G {\n") bytes.now }
+{
+    bytes.strip_prefix(b"digraph G {\n")
+}
+
+/// The graph of these lines: the first line, nodes, wires and the last line; `None` where the bytes are not of this form, or a node
+/// or a wire may not stand in the graph. The lines of each small text are read back. The only error is want of memory.
+pub(crate) fn read_lines(alloc: Global, bytes: &[u8]) -> Result<Option<Graph>, NoMemory>
+    ensures plain { IfOk result (λ found. IfSome found (λ g. IsPlain (by_names g))) }
+    ensures reads { (h : NamedGraph) → IsSmallTextOf h bytes.now → IfOk result (λ found. IsSomeAnd found (λ g. by_names g ≡ h)) }
+{
+    let Some(rest) = behind_first_line(bytes) else {
+        return Ok(None);
+    };
+    let mut g = Graph::new(alloc);
+    let Some(rest) = read_nodes(alloc, &mut g, rest)? else {
+        return Ok(None);
+    };
+    let Some(rest) = read_wires(&mut g, rest)? else {
+        return Ok(None);
+    };
+    Ok(if rest == b"}\n".as_slice() { Some(g) } else { None })
+}
