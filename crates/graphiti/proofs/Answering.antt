@@ -48,8 +48,8 @@ module _ (input : List ℕ) (new : Option (List ℕ)) (small : IsSmallText input
 
 -- where nothing fails a small text is answered, unless memory runs out
 pub completes : (status : Status) (old new : Option (List ℕ)) (reads reads_then writes writes_then : ℕ) →
-  (status ≡ NotYet → ReadsOther old new) → (status ≡ ReadFault → Rose reads reads_then) → (status ≡ TooLong → Gave (λ count. count ≡ max_input + 1) old new) → (status ≡ WriteFault → Rose writes writes_then) →
-  IfSome old (λ input. IsSmallText input → length input ≤ max_input → ¬ (Rose reads reads_then) → ¬ (Rose writes writes_then) → (status ≡ Done) ⊎ (status ≡ NoMemory))
+    (status ≡ NotYet → ReadsOther old new) → (status ≡ ReadFault → Rose reads reads_then) → (status ≡ TooLong → Gave (λ count. count ≡ max_input + 1) old new) → (status ≡ WriteFault → Rose writes writes_then) →
+    IfSome old (λ input. IsSmallText input → length input ≤ max_input → ¬ (Rose reads reads_then) → ¬ (Rose writes writes_then) → (status ≡ Done) ⊎ (status ≡ NoMemory))
 completes status None new reads reads_then writes writes_then other fault long cut = tt
 completes status (Some input) new reads reads_then writes writes_then other fault long cut =
     λ small few reading writing. by_status input new small few status other (λ e. reading (fault e)) long (λ e. writing (cut e))

@@ -78,7 +78,6 @@ module _ (g : NamedGraph) (typed : IsTyped g) (name : Name) (source target : Por
         source_free = source_free;
       }
 
-
 pub buffer_feeds : (g : NamedGraph) → IsTyped g → (name : Name) → IsBuffer g name → (target : Port) × (map.get g.feeders target ≡ Some (first_port name))
 buffer_feeds g typed name buffer =
     let b = buffer_at g name buffer in
@@ -155,7 +154,7 @@ module _ (g : GraphValue) (typed : IsTyped (by_names g)) (id : NodeId) (source :
     pub dropped : (k : GraphValue) → by_names k ≡ with_wire (by_names h) (port_named h source) (port_named h target) → IfSome (node_at g id) (λ node. Drops (by_names g) node.name (by_names k))
     dropped k joined =
         let same : by_names k ≡ with_wire (without_node (by_names g) is.node.name) (port_named g source) (port_named g target) =
-          joined ∙ (λ i. with_wire (without i) (port_kept source is.other i) (port_kept target apart_target i)) in
+        joined ∙ (λ i. with_wire (without i) (port_kept source is.other i) (port_kept target apart_target i)) in
         subst (λ found. IfSome found (λ node. Drops (by_names g) node.name (by_names k))) (sym is.at)
         (drops (by_names g) typed is.node.name (port_named g source) (port_named g target) is.buffer is.fed feeds source_other (by_names k) same)
 

@@ -20,3 +20,9 @@ pub mod TurnsById
 pub mod WiresInto
 pub mod WholeText
 pub mod Small
+pub mod PlainGraphs
+pub mod PartRead
+pub mod Shortening
+pub mod NodesRead
+pub mod WiresRead
+pub mod TextRead

@@ -8,3 +8,4 @@ pub mod PrintedWires
 pub mod PrintedGraph
 pub mod Status
 pub mod Answer
+pub mod Reading

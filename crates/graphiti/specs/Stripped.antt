@@ -23,7 +23,7 @@ first_port name = record { node = name; port = 1 }
 pub data Meets (g : NamedGraph) : Port → Port → Type 0 where
   feeds : (target source : Port) → map.get g.feeders target ≡ Some source → Meets g target source
   beyond : (target source : Port) (buffer : Name) → map.get g.feeders target ≡ Some (first_port buffer) → IsBuffer g buffer →
-    Meets g (first_port buffer) source → Meets g target source
+      Meets g (first_port buffer) source → Meets g target source
 
 -- a Buffer on a ring made of Buffers alone, with the greatest name of them
 pub record IsLastOfRing (g : NamedGraph) (name : Name) : Type 0 where

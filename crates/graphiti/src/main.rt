@@ -11,8 +11,6 @@ mod run;
 mod small_text;
 mod status;
 mod strip;
-#[cfg(test)]
-mod tests;
 
 use gx_base::{StdSink, StdSource};
 use run::run;

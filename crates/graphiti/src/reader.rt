@@ -182,5 +182,9 @@ pub(crate) fn read_lines(alloc: Global, bytes: &[u8]) -> Result<Option<Graph>, N
     let Some(rest) = read_wires(&mut g, rest)? else {
         return Ok(None);
     };
-    Ok(if rest == b"}\n".as_slice() { Some(g) } else { None })
+    Ok(if rest == b"}\n".as_slice() {
+        Some(g)
+    } else {
+        None
+    })
 }

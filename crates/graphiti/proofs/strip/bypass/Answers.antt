@@ -7,13 +7,13 @@ use Rattle.graphiti.proofs.strip.bypass.Goals as goal
 pub unreachable-requires : goal.unreachable-requires
 unreachable-requires c =
     let removal : Removal c.args.g.now c.args.id c.remove_node.new.self =
-      record { removed = c.remove_node.result; node = c.remove_node.ensures.node; gone = c.remove_node.ensures.gone; names = c.remove_node.ensures.names } in
+    record { removed = c.remove_node.result; node = c.remove_node.ensures.node; gone = c.remove_node.ensures.gone; names = c.remove_node.ensures.names } in
     feeds_some c.args.g.now c.requires.typed c.args.id c.args.source c.requires.fed c.remove_node.new.self removal c.first_port.result c.first_port.ensures c.in_default.ensures.none
 
 pub unreachable-requires-in-Err-UnknownPort : goal.unreachable-requires-in-Err-UnknownPort
 unreachable-requires-in-Err-UnknownPort c =
     let removal : Removal c.args.g.now c.args.id c.remove_node.new.self =
-      record { removed = c.remove_node.result; node = c.remove_node.ensures.node; gone = c.remove_node.ensures.gone; names = c.remove_node.ensures.names } in
+    record { removed = c.remove_node.result; node = c.remove_node.ensures.node; gone = c.remove_node.ensures.gone; names = c.remove_node.ensures.names } in
     let live = source_live c.args.g.now c.requires.typed c.args.id c.args.source c.requires.fed c.remove_node.new.self removal c.first_port.result c.first_port.ensures in
     let live' = target_live c.args.g.now c.requires.typed c.args.id c.args.source c.requires.fed c.remove_node.new.self removal c.first_port.result c.first_port.ensures c.in-Some.target c.in-Some.ensures.names c.in-Some.ensures.live in
     let can = can_join_ids c.args.g.now c.requires.typed c.args.id c.args.source c.requires.fed c.remove_node.new.self removal c.first_port.result c.first_port.ensures c.in-Some.target c.in-Some.ensures.names in
@@ -23,11 +23,11 @@ unreachable-requires-in-Err-UnknownPort c =
 pub returns-in-Ok-clause-dropped : goal.returns-in-Ok-clause-dropped
 returns-in-Ok-clause-dropped c =
     let removal : Removal c.args.g.now c.args.id c.remove_node.new.self =
-      record { removed = c.remove_node.result; node = c.remove_node.ensures.node; gone = c.remove_node.ensures.gone; names = c.remove_node.ensures.names } in
+    record { removed = c.remove_node.result; node = c.remove_node.ensures.node; gone = c.remove_node.ensures.gone; names = c.remove_node.ensures.names } in
     dropped c.args.g.now c.requires.typed c.args.id c.args.source c.requires.fed c.remove_node.new.self removal c.first_port.result c.first_port.ensures c.in-Some.target c.in-Some.ensures.names c.add_wire.new.self c.in-Ok.ensures.names
 
 pub returns-in-Ok-clause-others : goal.returns-in-Ok-clause-others
 returns-in-Ok-clause-others c =
     let removal : Removal c.args.g.now c.args.id c.remove_node.new.self =
-      record { removed = c.remove_node.result; node = c.remove_node.ensures.node; gone = c.remove_node.ensures.gone; names = c.remove_node.ensures.names } in
+    record { removed = c.remove_node.result; node = c.remove_node.ensures.node; gone = c.remove_node.ensures.gone; names = c.remove_node.ensures.names } in
     others_kept c.args.g.now c.requires.typed c.args.id c.args.source c.requires.fed c.remove_node.new.self removal c.first_port.result c.first_port.ensures c.in-Some.target c.in-Some.ensures.names c.add_wire.new.self c.in-Ok.ensures.ok
