@@ -11,6 +11,8 @@ mod run;
 mod small_text;
 mod status;
 mod strip;
+#[cfg(test)]
+mod tests;
 
 use gx_base::{StdSink, StdSource};
 use run::run;
