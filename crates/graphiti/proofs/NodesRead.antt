@@ -1,5 +1,5 @@
 -- The lines of the nodes of a small graph are read one after another.
-use Rattle.std.proofs.Common.{◌≡◌, ◌⊎◌, inl, inr, ℕ, List, [], ◌++◌, flat_map, Option, Some, None, refl, sym, ap, subst, ◌∙◌}
+use Rattle.std.proofs.Common.{◌≡◌, inl, inr, ℕ, List, [], ◌++◌, flat_map, Some, None, refl, sym, ap, subst, ◌∙◌}
 use Rattle.std.specs.FinMap as map
 use Rattle.graph_core.specs.Name.{Name, name_cmp, IsName}
 use Rattle.graph_core.specs.Kind.{KindOk}
@@ -35,12 +35,12 @@ IsSmallNode-get h small name body there = record {
 
 -- what a front line says is what it was read as
 takes_next : (h : NamedGraph) (rest : List ℕ) (g : NamedGraph) (left : List ℕ) (name : Name) (small : SmallKind) (behind : List ℕ) → IsSmall h → node_at left ≡ Some (name, small, behind) →
-  HasNext node_line h.nodes rest g.nodes left → TakesNode h rest g name small behind
+    HasNext node_line h.nodes rest g.nodes left → TakesNode h rest g name small behind
 takes_next h rest g left name small behind is_small found next =
     let node = IsSmallNode-get h is_small next.key next.value next.there in
     let reads : ReadsNode next.key next.value next.behind = node_at-node_line next.key next.value node next.behind in
     let same : (next.key ≡ name) × (reads.0 ≡ small) × (next.behind ≡ behind) =
-        same_answer next.key name reads.0 small next.behind behind (sym reads.2 ∙ ap node_at (sym next.left_is) ∙ found) in
+    same_answer next.key name reads.0 small next.behind behind (sym reads.2 ∙ ap node_at (sym next.left_is) ∙ found) in
     let names : next.key ≡ name = same.0 in
     let kind_is : next.value.kind ≡ kind_of small = sym reads.1 ∙ ap kind_of same.1 in
     let body_is : next.value ≡ plain_body (kind_of small) = λ i. record { kind = kind_is i; kept = node.kept i } in
@@ -55,12 +55,12 @@ takes_next h rest g left name small behind is_small found next =
 -- where the rest is no node's line
 
 none_left : (h : NamedGraph) (rest : List ℕ) (g : NamedGraph) (left : List ℕ) (name : Name) (small : SmallKind) (behind : List ℕ) → node_at rest ≡ None → node_at left ≡ Some (name, small, behind) →
-  IsAllRead h.nodes rest g.nodes left → TakesNode h rest g name small behind
+    IsAllRead h.nodes rest g.nodes left → TakesNode h rest g name small behind
 none_left h rest g left name small behind none found all =
     absurd (no_answer (name, small, behind) (sym none ∙ ap node_at (sym all.left_is) ∙ found))
 
 pub takes_node : (h : NamedGraph) (rest : List ℕ) (g : NamedGraph) (left : List ℕ) (name : Name) (small : SmallKind) (behind : List ℕ) → IsSmall h → node_at rest ≡ None → AreNodesRead h rest g left →
-  node_at left ≡ Some (name, small, behind) → TakesNode h rest g name small behind
+    node_at left ≡ Some (name, small, behind) → TakesNode h rest g name small behind
 takes_node h rest g left name small behind is_small none read found =
     elim (read_cases node_line name_total name_same h.nodes rest g.nodes left read) [
       | inl all ↦ none_left h rest g left name small behind none found all

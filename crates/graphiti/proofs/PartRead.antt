@@ -48,7 +48,7 @@ module _ {K X : Type 0} {R : K → K → Ordering} (line : K × X → List ℕ) 
         get-from_front o whole read.before read.behind q w read.cut (subst (λ (m : FinMap R X). get m q ≡ Some w) read.part_is found)
 
     cut_cases : (whole : FinMap R X) (rest : List ℕ) (part : FinMap R X) (left : List ℕ) (before behind : List (K × X)) → entries whole ≡ before ++ behind → left ≡ flat_map line behind ++ rest → part ≡ from_entries before →
-      IsAllRead whole rest part left ⊎ HasNext line whole rest part left
+        IsAllRead whole rest part left ⊎ HasNext line whole rest part left
     cut_cases whole rest part left before [] cut left_is part_is =
         inl (record {
           left_is = left_is;

@@ -1,5 +1,5 @@
 -- Plain nodes, and plain graphs that gain one.
-use Rattle.std.proofs.Common.{◌≡◌, ◌⊎◌, inl, inr, Option, Some, None, refl, sym, ap, subst, ◌∙◌, length}
+use Rattle.std.proofs.Common.{◌≡◌, inl, inr, Option, Some, None, refl, sym, subst, ◌∙◌}
 use Rattle.std.specs.FinMap as map
 use Rattle.graph_core.specs.declared.kind.Kind.{Kind}
 use Rattle.graph_core.specs.declared.node.Node.{Node}
@@ -27,7 +27,7 @@ with_node-plain g name kind node plain = λ i. with_node g (plain.named i) (body
 
 -- what holds of each node of a graph and of one more
 each_more : (P : Name → Body → Type 0) (m : map.FinMap name_cmp Body) (k : Name) (v : Body) → ((q : Name) (w : Body) → map.get m q ≡ Some w → P q w) → P k v →
-  (q : Name) (w : Body) → map.get (map.insert m k v) q ≡ Some w → P q w
+    (q : Name) (w : Body) → map.get (map.insert m k v) q ≡ Some w → P q w
 each_more P m k v each new q w found =
     elim (name_cases q k) [
       | inl same ↦

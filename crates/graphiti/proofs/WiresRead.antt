@@ -1,10 +1,10 @@
 -- The lines of the wires of a small graph are read one after another.
-use Rattle.std.proofs.Common.{◌≡◌, ◌⊎◌, ◌≤◌, inl, inr, ℕ, zero, suc, List, [], ◌∷◌, ◌++◌, length, replicate, flat_map, Option, Some, None, refl, sym, ap, subst, ◌∙◌, arith}
+use Rattle.std.proofs.Common.{◌≡◌, ◌≤◌, inl, inr, ℕ, zero, suc, List, [], ◌∷◌, ◌++◌, length, flat_map, Some, None, refl, sym, ap, subst, ◌∙◌, arith}
 use Rattle.std.proofs.lemmas.List.{length-replicate}
 use Rattle.std.specs.FinMap as map
 use Rattle.graph_core.specs.declared.kind.Kind.{Kind}
 use Rattle.graph_core.specs.declared.kind.Kind.TheVariants.{Entry, Exit, Buffer, Fork}
-use Rattle.graph_core.specs.Name.{Name, Port, name_cmp, port_cmp, port_get}
+use Rattle.graph_core.specs.Name.{Port, name_cmp, port_cmp, port_get}
 use Rattle.graph_core.specs.Kind.{ins, outs, KindOk}
 use Rattle.graph_core.specs.Node.{Body}
 use Rattle.graph_core.specs.NamedGraph.{NamedGraph, IsWire, CanWire}
@@ -69,14 +69,14 @@ IsWire-nodes g h source target nodes wire = record {
 
 -- the source of a new wire stands on no wire that was read
 source_is_free : (h : NamedGraph) (rest : List ℕ) (g : NamedGraph) (left : List ℕ) (target source : Port) → IsSmall h → AreWiresRead h rest g left → map.get h.feeders target ≡ Some source →
-  map.get g.feeders target ≡ None → (p : Port) → map.get g.feeders p ≡ Some source → ⊥
+    map.get g.feeders target ≡ None → (p : Port) → map.get g.feeders p ≡ Some source → ⊥
 source_is_free h rest g left target source small read there new p found =
     let whole = get-part wire_line port_total port_same h.feeders rest g.feeders left read p source found in
     let same : p ≡ target = small.typed.once p target source whole there in
     no_answer source (sym new ∙ ap (map.get g.feeders) (sym same) ∙ found)
 
 can_next : (h : NamedGraph) (rest : List ℕ) (g : NamedGraph) (left : List ℕ) (target source : Port) → IsSmall h → g.nodes ≡ h.nodes → AreWiresRead h rest g left → map.get h.feeders target ≡ Some source →
-  map.get g.feeders target ≡ None → CanWire g source target
+    map.get g.feeders target ≡ None → CanWire g source target
 can_next h rest g left target source small nodes read there new = record {
   wire = IsWire-nodes g h source target nodes (small.typed.wires target source there);
   target_free = new;
@@ -84,11 +84,11 @@ can_next h rest g left target source small nodes read there new = record {
 }
 
 takes_next : (h : NamedGraph) (rest : List ℕ) (g : NamedGraph) (left : List ℕ) (source target : Port) (behind : List ℕ) → IsSmall h → g.nodes ≡ h.nodes → AreWiresRead h rest g left →
-  wire_at left ≡ Some (source, target, behind) → HasNext wire_line h.feeders rest g.feeders left → TakesWire h rest g source target behind
+    wire_at left ≡ Some (source, target, behind) → HasNext wire_line h.feeders rest g.feeders left → TakesWire h rest g source target behind
 takes_next h rest g left source target behind is_small nodes read found next =
     let reads = wire_at-wire_line next.key next.value (IsSmallWire-get h is_small next.key next.value next.there) next.behind in
     let same : (next.value ≡ source) × (next.key ≡ target) × (next.behind ≡ behind) =
-        same_answer next.value source next.key target next.behind behind (sym reads ∙ ap wire_at (sym next.left_is) ∙ found) in
+    same_answer next.value source next.key target next.behind behind (sym reads ∙ ap wire_at (sym next.left_is) ∙ found) in
     let can : CanWire g next.value next.key = can_next h rest g left next.key next.value is_small nodes read next.there next.new in
     record {
       can = subst (λ (p : Port). CanWire g p target) same.0 (subst (CanWire g next.value) same.1 can);
@@ -97,7 +97,7 @@ takes_next h rest g left source target behind is_small nodes read found next =
     }
 
 pub takes_wire : (h : NamedGraph) (rest : List ℕ) (g : NamedGraph) (left : List ℕ) (source target : Port) (behind : List ℕ) → IsSmall h → g.nodes ≡ h.nodes → wire_at rest ≡ None → AreWiresRead h rest g left →
-  wire_at left ≡ Some (source, target, behind) → TakesWire h rest g source target behind
+    wire_at left ≡ Some (source, target, behind) → TakesWire h rest g source target behind
 takes_wire h rest g left source target behind is_small nodes none read found =
     elim (read_cases wire_line port_total port_same h.feeders rest g.feeders left read) [
       | inl all ↦ absurd (no_answer (source, target, behind) (sym none ∙ ap wire_at (sym all.left_is) ∙ found))
@@ -111,7 +111,7 @@ wires_end h rest g left is_small read none =
       | inl all ↦ all
       | inr next ↦
           absurd (no_answer (next.value, next.key, next.behind)
-            (sym none ∙ ap wire_at next.left_is ∙ wire_at-wire_line next.key next.value (IsSmallWire-get h is_small next.key next.value next.there) next.behind))
+          (sym none ∙ ap wire_at next.left_is ∙ wire_at-wire_line next.key next.value (IsSmallWire-get h is_small next.key next.value next.there) next.behind))
     ]
 
 pub wires_start : (h : NamedGraph) (rest : List ℕ) (g : NamedGraph) (bytes : List ℕ) → g.feeders ≡ map.empty → bytes ≡ flat_map wire_line (map.entries h.feeders) ++ rest → AreWiresRead h rest g bytes

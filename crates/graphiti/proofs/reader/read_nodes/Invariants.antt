@@ -13,7 +13,7 @@ abbrev pub invariant-loop-line : goal.invariant-loop-line
 invariant-loop-line l = record {
   feeders : (by_names l.g).feeders ≡ map.empty;
   plain : IsPlain (by_names l.g);
-  reads : (h : NamedGraph) (rest : List ℕ) → IsSmall h → node_at rest ≡ None → l.fn.bytes ≡ flat_map node_line (map.entries h.nodes) ++ rest → AreNodesRead h rest (by_names l.g) l.rest
+  reads : (h : NamedGraph) (rest : List ℕ) → IsSmall h → node_at rest ≡ None → l.fn.bytes ≡ flat_map node_line (map.entries h.nodes) ++ rest → AreNodesRead h rest (by_names l.g) l.rest;
 }
 
 abbrev pub decreases-loop-line : goal.decreases-loop-line

@@ -12,7 +12,7 @@ abbrev pub invariant-loop-line : goal.invariant-loop-line
 invariant-loop-line l = record {
   nodes : (by_names l.g).nodes ≡ (by_names l.fn.g).nodes;
   reads : (h : NamedGraph) (rest : List ℕ) → IsSmall h → (by_names l.fn.g).nodes ≡ h.nodes → (by_names l.fn.g).feeders ≡ map.empty → wire_at rest ≡ None →
-      l.fn.bytes ≡ flat_map wire_line (map.entries h.feeders) ++ rest → AreWiresRead h rest (by_names l.g) l.rest
+      l.fn.bytes ≡ flat_map wire_line (map.entries h.feeders) ++ rest → AreWiresRead h rest (by_names l.g) l.rest;
 }
 
 abbrev pub decreases-loop-line : goal.decreases-loop-line
