@@ -3,7 +3,6 @@ use Rattle.std.proofs.Common.{◌≡◌, ◌+◌, ◌<◌, ◌≤◌, ℕ, Bool,
 use Rattle.std.proofs.lemmas.Bool.{ltb-true}
 use Rattle.std.specs.Prelude.{◌==◌, count_by}
 use Rattle.std.specs.Option.{IfSome, option_map}
-use Rattle.std.specs.List.{position_or_len}
 use Rattle.graph_core.specs.Name.{Name, Port}
 use Rattle.graphiti.specs.declared.lines.SmallKind.{SmallKind}
 use Rattle.graphiti.specs.SmallLine.{◌>>=◌, literal_at, until_quote, number_of, number_at, outputs_at, entry_at, exit_at, buffer_at, fork_at, kind_at, node_at, wire_at}

@@ -1,5 +1,5 @@
 -- What the reader makes of lines, whatever they say.
-use Rattle.std.specs.Prelude.{◌≡◌, ℕ, List, [], Some}
+use Rattle.std.specs.Prelude.{◌≡◌, [], Some}
 use Rattle.std.specs.FinMap as map
 use Rattle.graph_core.specs.declared.kind.Kind.{Kind}
 use Rattle.graph_core.specs.declared.node.Node.{Node}

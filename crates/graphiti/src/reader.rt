@@ -1,6 +1,7 @@
 //! Reading small texts: a graph is made of the lines, whatever they say.
 
-ghost use Rattle.std.specs.Prelude.{◌≡◌, ◌++◌, List, ℕ, [], ◌∷◌, None, codes, IsTrue, IfOk, IfSome, IsSomeAnd, MatchOption};
+ghost use Rattle.std.specs.Prelude.{◌≡◌, ◌++◌, List, ℕ, [], ◌∷◌, None, codes, IsTrue, IfOk, IfSome, IsSomeAnd, MatchOption, MatchResult};
+ghost use Rattle.std.specs.Bool.{OnFalse};
 ghost use Rattle.std.specs.List.{flat_map};
 ghost use Rattle.std.specs.Option.{option_map};
 ghost use Rattle.std.specs.FinMap as map_of;
@@ -78,6 +79,7 @@ fn add_node_line(alloc: Global, g: &mut Graph, line: NodeLine) -> Result<bool, N
     ensures plain { IsPlain (by_names g.old) → IsPlain (by_names g.new) }
     ensures adds { IsName line.entry.name.now → KindOk (kind_of line.entry.kind) → map_of.get (by_names g.old).nodes line.entry.name.now ≡ None
         → IfOk result (λ added. IsTrue added × (by_names g.new ≡ with_node (by_names g.old) line.entry.name.now (plain_body (kind_of line.entry.kind)))) }
+    ensures unchanged { MatchResult result (λ added. OnFalse added (g.new ≡ g.old)) (λ _. g.new ≡ g.old) }
 {
     let Some(node) = node_from(alloc, line)? else {
         return Ok(false);
@@ -90,7 +92,7 @@ fn add_node_line(alloc: Global, g: &mut Graph, line: NodeLine) -> Result<bool, N
 }
 
 /// Adds the nodes whose lines are at the front to a graph without nodes, and gives the bytes behind these lines; `None` where one
-/// may not stand in the graph. The graph then has the nodes before it.
+/// may not stand in the graph. After an error, too, the graph is plain.
 fn read_nodes<'a>(
     alloc: Global,
     g: &mut Graph,
@@ -118,6 +120,7 @@ fn add_wire_line(g: &mut Graph, line: WireLine) -> Result<bool, NoMemory>
     ensures adds { let source : Port = record { node = line.entry.source.now; port = line.entry.output } in
         let target : Port = record { node = line.entry.target.now; port = line.entry.input } in
         CanWire (by_names g.old) source target → IfOk result (λ added. IsTrue added × (by_names g.new ≡ with_wire (by_names g.old) source target)) }
+    ensures unchanged { MatchResult result (λ added. OnFalse added (g.new ≡ g.old)) (λ _. g.new ≡ g.old) }
 {
     let Some(source) = g.find(line.source) else {
         return Ok(false);
@@ -141,7 +144,7 @@ fn add_wire_line(g: &mut Graph, line: WireLine) -> Result<bool, NoMemory>
 }
 
 /// Adds the wires whose lines are at the front, and gives the bytes behind these lines; `None` where one could not be added.
-/// The graph then has the wires before it.
+/// After an error, too, the graph has the same nodes.
 fn read_wires<'a>(g: &mut Graph, bytes: &'a [u8]) -> Result<Option<&'a [u8]>, NoMemory>
     ensures nodes { (by_names g.new).nodes ≡ (by_names g.old).nodes }
     ensures reads { (h : NamedGraph) (rest : List ℕ) → IsSmall h → (by_names g.old).nodes ≡ h.nodes → (by_names g.old).feeders ≡ map_of.empty → wire_at rest ≡ None

@@ -1,4 +1,4 @@
-use Rattle.std.proofs.Common.{◌≡◌, true, false, sym, ◌∙◌, subst, ap}
+use Rattle.std.proofs.Common.{sym, ◌∙◌, subst, ap}
 use Rattle.std.proofs.lemmas.Bool.{true≢false}
 use Rattle.graph_core.specs.NamedGraph.{NamedGraph}
 use Rattle.graph_core.specs.GraphValue.{by_names}
