@@ -1,5 +1,5 @@
 -- What a graph by ids says of the graph by names.
-use Rattle.std.proofs.Common.{◌≡◌, ◌≢◌, ℕ, zero, suc, ◌≤◌, Bool, true, false, cond, refl, sym, ap, ◌∙◌, List, [], ◌∷◌, ◌++◌, length, map, Option, Some, None, Ordering, arith}
+use Rattle.std.proofs.Common.{◌≡◌, ◌≢◌, ℕ, zero, suc, Bool, true, false, cond, refl, sym, ap, ◌∙◌, List, [], ◌∷◌, ◌++◌, length, map, Option, Some, None, Ordering, arith}
 use Rattle.std.proofs.lemmas.Option.{none-some, same_Some}
 use Rattle.std.specs.Prelude.{slice_get, slice_set}
 use Rattle.std.specs.Ordering.{eq_by_cmp}
@@ -51,10 +51,10 @@ is_found (Some first ∷ slots) (suc i) node live none = is_found slots i node l
 pub names_apart : (g : GraphValue) (id : NodeId) (name : Name) → by_names (without_slot g id) ≡ without_node (by_names g) name → (other : NodeId) (node : Node) → node_at g other ≡ Some node → other ≢ id → node.name ≢ name
 names_apart g id name gone other node live apart same =
     is_found (without_slot g id).slots (index_of other) node (node_without g id other apart ∙ live) (
-      sym (fin.get-from_entries name_total (named_nodes (without_slot g id).slots) node.name)
-      ∙ ap (λ z. fin.get z.nodes node.name) gone
-      ∙ ap (fin.get (without_node (by_names g) name).nodes) same
-      ∙ get_removed name_total name_same (by_names g).nodes name
+    sym (fin.get-from_entries name_total (named_nodes (without_slot g id).slots) node.name)
+    ∙ ap (λ z. fin.get z.nodes node.name) gone
+    ∙ ap (fin.get (without_node (by_names g) name).nodes) same
+    ∙ get_removed name_total name_same (by_names g).nodes name
     )
 
 -- a node with a name that is allowed is there

@@ -66,8 +66,8 @@ module _ (g h : GraphValue) (id : NodeId) (others : (other : NodeId) → other �
   others_named name here (other ∷ ids) (next ∷ names) apart are =
       let (node, live, same) = are.0 in
       let differs : other ≢ id = λ is.
-        let one : node ≡ here.0 = same_Some node here.0 (sym live ∙ ap (node_at g) is ∙ here.1) in
-        apart next (inl refl) (sym same ∙ ap (λ (x : Node). x.name) one ∙ here.2) in
+      let one : node ≡ here.0 = same_Some node here.0 (sym live ∙ ap (node_at g) is ∙ here.1) in
+      apart next (inl refl) (sym same ∙ ap (λ (x : Node). x.name) one ∙ here.2) in
       ((node, others other differs ∙ live, same), others_named name here ids names (λ n among. apart n (inr among)) are.1)
 
   underway_past : (start : NamedGraph) (ids : List NodeId) (names : List Name) → IsTyped (by_names g) → AreNamed g (id ∷ ids) names → Rise names → ((k : NamedGraph) → Turns (by_names g) names k → Turns start (fin.keys start.nodes) k) → IfSome (node_at g id) (λ node. Turn (by_names g) node.name (by_names h)) → Underway start h ids
@@ -86,18 +86,8 @@ module _ (g h : GraphValue) (id : NodeId) (others : (other : NodeId) → other �
   pub underway_next : (start : NamedGraph) (ids : List NodeId) → Underway start g (id ∷ ids) → IfSome (node_at g id) (λ node. Turn (by_names g) node.name (by_names h)) → Underway start h ids
   underway_next start ids u = underway_past start ids u.names u.typed u.are_named u.rise u.leads
 
--- After the last turn
-
-last_turn : (start : NamedGraph) (g : GraphValue) (names : List Name) → AreNamed g [] names → ((k : NamedGraph) → Turns (by_names g) names k → Turns start (fin.keys start.nodes) k) → Turns start (fin.keys start.nodes) (by_names g)
-last_turn start g [] are leads = leads (by_names g) refl
-last_turn start g (name ∷ names) are leads = absurd are
-
-pub underway_last : (start : NamedGraph) (g : GraphValue) → Underway start g [] → Turns start (fin.keys start.nodes) (by_names g)
-underway_last start g u = last_turn start g u.names u.are_named u.leads
-
 -- In the loop over the ids
 
 pub underway_more : (start : NamedGraph) (g h : GraphValue) (ids : List NodeId) (i : ℕ) (default : NodeId) → i < length ids → Underway start g (drop i ids) → IfSome (node_at g (get_or ids i default)) (λ node. Turn (by_names g) node.name (by_names h)) → ((other : NodeId) → other ≢ get_or ids i default → node_at h other ≡ node_at g other) → Underway start h (drop (i + 1) ids)
 underway_more start g h ids i default below underway turned others =
     rw add-one (underway_next g h (get_or ids i default) others start (drop (suc i) ids) (subst (Underway start g) (drop-cons ids i default below) underway) turned)
-
