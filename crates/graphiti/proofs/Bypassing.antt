@@ -1,7 +1,7 @@
 -- Taking a Buffer out and joining what fed it to what it fed.
-use Rattle.std.proofs.Common.{◌≡◌, ◌≢◌, ◌⊎◌, ℕ, inl, inr, Bool, true, false, cond, not, ◌||◌, refl, sym, ap, subst, ◌∙◌, Option, Some, None, IsSome, IfSome, is_some, IsSomeAnd, bytes_eq, true≢false}
+use Rattle.std.proofs.Common.{◌≡◌, ◌≢◌, inl, inr, Bool, true, false, cond, not, ◌||◌, refl, sym, ap, subst, ◌∙◌, Option, Some, None, IsSome, IfSome, is_some, IsSomeAnd, bytes_eq, true≢false}
 use Rattle.std.proofs.lemmas.Bool.{cases_eq}
-use Rattle.std.proofs.lemmas.Option.{none-some, same_Some}
+use Rattle.std.proofs.lemmas.Option.{none-some}
 use Rattle.std.proofs.lemmas.Slice.Eq.{bytes_eq-Decides}
 use Rattle.std.specs.Option.{option_map}
 use Rattle.std.specs.FinMap as map
@@ -37,7 +37,7 @@ module _ (g : NamedGraph) (typed : IsTyped g) (name : Name) (source target : Por
   after : NamedGraph
   after = with_wire (without_node g name) source target
 
-  pub drops : (h : NamedGraph) → h ≡ with_wire (without_node g name) source target → Drops g name h
+  drops : (h : NamedGraph) → h ≡ with_wire (without_node g name) source target → Drops g name h
   drops h is = record { source = source; target = target; buffer = buffer; fed = fed; feeds = feeds; other = other; after = is }
 
   past : Bypasses g name after
@@ -48,7 +48,7 @@ module _ (g : NamedGraph) (typed : IsTyped g) (name : Name) (source target : Por
   unfolding after
   joined = get_inserted port_total port_same (without_node g name).feeders target source target refl
 
-  pub target_other : target.node ≢ name
+  target_other : target.node ≢ name
   target_other = (past.wire_from target source joined).0
 
   wire : IsWire (without_node g name) source target
@@ -70,7 +70,7 @@ module _ (g : NamedGraph) (typed : IsTyped g) (name : Name) (source target : Por
       true≢false (sym itself ∙ ap (λ (z : Port). bytes_eq z.node name) (sym first) ∙ far.0)
 
   -- without the Buffer the wire can be added
-  pub can_join : CanWire (without_node g name) source target
+  can_join : CanWire (without_node g name) source target
   can_join =
       record {
         wire = wire;
@@ -78,7 +78,7 @@ module _ (g : NamedGraph) (typed : IsTyped g) (name : Name) (source target : Por
         source_free = source_free;
       }
 
-pub buffer_feeds : (g : NamedGraph) → IsTyped g → (name : Name) → IsBuffer g name → (target : Port) × (map.get g.feeders target ≡ Some (first_port name))
+buffer_feeds : (g : NamedGraph) → IsTyped g → (name : Name) → IsBuffer g name → (target : Port) × (map.get g.feeders target ≡ Some (first_port name))
 buffer_feeds g typed name buffer =
     let b = buffer_at g name buffer in
     typed.outputs (first_port name) b.body b.shape b.is (ap (λ kind. port_get (outs kind) 1) b.kind)
@@ -89,14 +89,19 @@ some_in : {X : Type 0} (o : Option X) → IsSome o → (x : X) × (o ≡ Some x)
 some_in None some = absurd (true≢false (sym some))
 some_in (Some x) some = (x, refl)
 
--- h is g without the node of this id
-pub record Removal (g : GraphValue) (id : NodeId) (h : GraphValue) : Type 0 where
+-- h is g without the Buffer of this id, which source feeds and whose first port this is
+pub record Removal (g : GraphValue) (id : NodeId) (source : PortAt) (h : GraphValue) (port : PortAt) : Type 0 where
+  pub typed : IsTyped (by_names g)
+  pub is : IsFedBuffer g id source
+  pub first : port ≡ record { node = id; port = 1 }
   pub removed : Option Node
   pub node : removed ≡ node_at g id
   pub gone : h ≡ without_slot g id
   pub names : IfSome removed (λ node. by_names h ≡ without_node (by_names g) node.name)
 
-module _ (g : GraphValue) (typed : IsTyped (by_names g)) (id : NodeId) (source : PortAt) (is : IsFedBuffer g id source) (h : GraphValue) (removal : Removal g id h) (port : PortAt) (first : port ≡ record { node = id; port = 1 }) where
+module _ {g : GraphValue} {id : NodeId} {source : PortAt} {h : GraphValue} {port : PortAt} (removal : Removal g id source h port) where
+  open removal use {is}
+
   without : by_names h ≡ without_node (by_names g) is.node.name
   without = subst (λ found. IfSome found (λ node. by_names h ≡ without_node (by_names g) node.name)) (removal.node ∙ is.at) removal.names
 
@@ -104,18 +109,18 @@ module _ (g : GraphValue) (typed : IsTyped (by_names g)) (id : NodeId) (source :
   apart = names_apart g id is.node.name (ap by_names (sym removal.gone) ∙ without)
 
   first_named : port_named g port ≡ first_port is.node.name
-  first_named = ap (port_named g) first ∙ (λ i. record { node = name_of (is.at i); port = 1 })
+  first_named = ap (port_named g) removal.first ∙ (λ i. record { node = name_of (is.at i); port = 1 })
 
   -- the Buffer's output stands on a wire
   pub feeds_some : ((target : PortAt) → map.get g.feeders target ≢ Some port) → ⊥
   feeds_some none =
-      let (to, feeds) = buffer_feeds (by_names g) typed is.node.name is.buffer in
+      let (to, feeds) = buffer_feeds (by_names g) removal.typed is.node.name is.buffer in
       let f = feeds_by_id g to (first_port is.node.name) feeds in
       let (node, live, same) = live_by_name (node_at g f.output.node) is.node.name is.right (ap (λ (p : Port). p.node) f.is_named) in
       elim (cases_eq (index_of f.output.node) (index_of id)) [
         | inl e ↦
             let at : f.output ≡ record { node = id; port = 1 } = λ i. record { node = same_id f.output.node id e i; port = ap (λ (p : Port). p.port) f.is_named i } in
-            none f.target (f.wired ∙ ap Some (at ∙ sym first))
+            none f.target (f.wired ∙ ap Some (at ∙ sym removal.first))
         | inr e ↦ apart f.output.node node live (λ same. e (ap index_of same)) same
       ]
 
@@ -139,7 +144,7 @@ module _ (g : GraphValue) (typed : IsTyped (by_names g)) (id : NodeId) (source :
 
     apart_target : target.node ≢ id
     apart_target same =
-        target_other (by_names g) typed is.node.name (port_named g source) (port_named g target) is.buffer is.fed feeds source_other (ap (λ other. name_of (node_at g other)) same ∙ ap name_of is.at)
+        target_other (by_names g) removal.typed is.node.name (port_named g source) (port_named g target) is.buffer is.fed feeds source_other (ap (λ other. name_of (node_at g other)) same ∙ ap name_of is.at)
 
     pub target_live : IsSome (node_at g target.node) → IsSome (node_at h target.node)
     target_live = subst IsSome (sym (kept target.node apart_target))
@@ -149,30 +154,39 @@ module _ (g : GraphValue) (typed : IsTyped (by_names g)) (id : NodeId) (source :
         subst (λ z. CanWire z (port_named h source) (port_named h target)) (sym without)
         (subst (λ p. CanWire (without_node (by_names g) is.node.name) p (port_named h target)) (sym (port_kept source is.other))
         (subst (λ p. CanWire (without_node (by_names g) is.node.name) (port_named g source) p) (sym (port_kept target apart_target))
-        (can_join (by_names g) typed is.node.name (port_named g source) (port_named g target) is.buffer is.fed feeds source_other)))
+        (can_join (by_names g) removal.typed is.node.name (port_named g source) (port_named g target) is.buffer is.fed feeds source_other)))
 
     pub dropped : (k : GraphValue) → by_names k ≡ with_wire (by_names h) (port_named h source) (port_named h target) → IfSome (node_at g id) (λ node. Drops (by_names g) node.name (by_names k))
     dropped k joined =
         let same : by_names k ≡ with_wire (without_node (by_names g) is.node.name) (port_named g source) (port_named g target) =
         joined ∙ (λ i. with_wire (without i) (port_kept source is.other i) (port_kept target apart_target i)) in
         subst (λ found. IfSome found (λ node. Drops (by_names g) node.name (by_names k))) (sym is.at)
-        (drops (by_names g) typed is.node.name (port_named g source) (port_named g target) is.buffer is.fed feeds source_other (by_names k) same)
+        (drops (by_names g) removal.typed is.node.name (port_named g source) (port_named g target) is.buffer is.fed feeds source_other (by_names k) same)
 
     pub others_kept : (k : GraphValue) → k ≡ with_feeder h source target → (other : NodeId) → other ≢ id → node_at k other ≡ node_at g other
     others_kept k joined other apart = ap (λ z. node_at z other) joined ∙ kept other apart
 
-module _ (g : GraphValue) (typed : IsTyped (by_names g)) (id : NodeId) (node : Node) (at : node_at g id ≡ Some node) (shape : Shape) (kind : node.kind ≡ Buffer shape) (body : IfSome (node_at g id) (λ node. map.get (by_names g).nodes node.name ≡ Some (body_of node))) (port : PortAt) (first : port ≡ record { node = id; port = 1 }) where
+-- the node of this id is a Buffer, and this its first port
+pub record BufferById (g : GraphValue) (id : NodeId) (node : Node) (port : PortAt) : Type 0 where
+  pub typed : IsTyped (by_names g)
+  pub at : node_at g id ≡ Some node
+  pub shape : Shape
+  pub kind : node.kind ≡ Buffer shape
+  pub body : IfSome (node_at g id) (λ node. map.get (by_names g).nodes node.name ≡ Some (body_of node))
+  pub first : port ≡ record { node = id; port = 1 }
+
+module _ {g : GraphValue} {id : NodeId} {node : Node} {port : PortAt} (buffer : BufferById g id node port) where
   found : map.get (by_names g).nodes node.name ≡ Some (body_of node)
-  found = subst (λ there. IfSome there (λ node. map.get (by_names g).nodes node.name ≡ Some (body_of node))) at body
+  found = subst (λ there. IfSome there (λ node. map.get (by_names g).nodes node.name ≡ Some (body_of node))) buffer.at buffer.body
 
   is_buffer : IsBuffer (by_names g) node.name
-  is_buffer = subst (λ there. IsSomeAnd there (λ body. IsBufferKind body.kind)) (sym found) (subst IsBufferKind (sym kind) tt)
+  is_buffer = subst (λ there. IsSomeAnd there (λ body. IsBufferKind body.kind)) (sym found) (subst IsBufferKind (sym buffer.kind) tt)
 
   is_first : port_named g port ≡ first_port node.name
-  is_first = ap (port_named g) first ∙ (λ i. record { node = name_of (at i); port = 1 })
+  is_first = ap (port_named g) buffer.first ∙ (λ i. record { node = name_of (buffer.at i); port = 1 })
 
   live : IsSome (node_at g port.node)
-  live = ap (λ (p : PortAt). is_some (node_at g p.node)) first ∙ ap is_some at
+  live = ap (λ (p : PortAt). is_some (node_at g p.node)) buffer.first ∙ ap is_some buffer.at
 
   module _ (fed : Option PortAt) (names : IsSome (node_at g port.node) → option_map (port_named g) fed ≡ map.get (by_names g).feeders (port_named g port)) where
     feeder : map.get (by_names g).feeders (first_port node.name) ≡ option_map (port_named g) fed
@@ -181,13 +195,13 @@ module _ (g : GraphValue) (typed : IsTyped (by_names g)) (id : NodeId) (node : N
     -- the Buffer's input stands on a wire
     pub fed_some : fed ≢ None
     fed_some none =
-        let (source, wired) = typed.inputs (first_port node.name) (body_of node) shape found (ap (λ kind. port_get (ins kind) 1) kind) in
+        let (source, wired) = buffer.typed.inputs (first_port node.name) (body_of node) buffer.shape found (ap (λ kind. port_get (ins kind) 1) buffer.kind) in
         none-some source (sym (ap (option_map (port_named g)) none) ∙ sym feeder ∙ wired)
 
     -- a Buffer that its own output feeds stays
     pub stays_itself : (source : PortAt) → fed ≡ Some source → source.node ≡ id → IfSome (node_at g id) (λ node. StaysAtTurn (by_names g) node.name)
     stays_itself source is same =
         let wired : map.get (by_names g).feeders (first_port node.name) ≡ Some (port_named g source) = feeder ∙ ap (option_map (port_named g)) is in
-        let own : (port_named g source).node ≡ node.name = ap (λ other. name_of (node_at g other)) same ∙ ap name_of at in
-        let itself : port_named g source ≡ first_port node.name = buffer_output (by_names g) typed node.name is_buffer (first_port node.name) (port_named g source) wired own in
-        subst (λ there. IfSome there (λ node. StaysAtTurn (by_names g) node.name)) (sym at) (inr (wired ∙ ap Some itself))
+        let own : (port_named g source).node ≡ node.name = ap (λ other. name_of (node_at g other)) same ∙ ap name_of buffer.at in
+        let itself : port_named g source ≡ first_port node.name = buffer_output (by_names g) buffer.typed node.name is_buffer (first_port node.name) (port_named g source) wired own in
+        subst (λ there. IfSome there (λ node. StaysAtTurn (by_names g) node.name)) (sym buffer.at) (inr (wired ∙ ap Some itself))

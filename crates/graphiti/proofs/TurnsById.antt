@@ -86,15 +86,6 @@ module _ (g h : GraphValue) (id : NodeId) (others : (other : NodeId) → other �
   pub underway_next : (start : NamedGraph) (ids : List NodeId) → Underway start g (id ∷ ids) → IfSome (node_at g id) (λ node. Turn (by_names g) node.name (by_names h)) → Underway start h ids
   underway_next start ids u = underway_past start ids u.names u.typed u.are_named u.rise u.leads
 
--- After the last turn
-
-last_turn : (start : NamedGraph) (g : GraphValue) (names : List Name) → AreNamed g [] names → ((k : NamedGraph) → Turns (by_names g) names k → Turns start (fin.keys start.nodes) k) → Turns start (fin.keys start.nodes) (by_names g)
-last_turn start g [] are leads = leads (by_names g) refl
-last_turn start g (name ∷ names) are leads = absurd are
-
-pub underway_last : (start : NamedGraph) (g : GraphValue) → Underway start g [] → Turns start (fin.keys start.nodes) (by_names g)
-underway_last start g u = last_turn start g u.names u.are_named u.leads
-
 -- In the loop over the ids
 
 pub underway_more : (start : NamedGraph) (g h : GraphValue) (ids : List NodeId) (i : ℕ) (default : NodeId) → i < length ids → Underway start g (drop i ids) → IfSome (node_at g (get_or ids i default)) (λ node. Turn (by_names g) node.name (by_names h)) → ((other : NodeId) → other ≢ get_or ids i default → node_at h other ≡ node_at g other) → Underway start h (drop (i + 1) ids)

@@ -75,6 +75,7 @@ fn bypass(g: &mut Graph, id: NodeId, source: PortAt) -> Result<(), NoMemory>
 {
     let fed = g.wire_from(first_port(id));
     let _ = g.remove_node(id);
+    // Each output of a typed graph stands on a wire.
     let Some(target) = fed else { unreachable!() };
     match g.add_wire(source, target) {
         Ok(()) => Ok(()),

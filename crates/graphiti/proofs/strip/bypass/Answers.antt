@@ -1,33 +1,30 @@
 -- By names the removal makes room for the wire, since nothing else stands at the ports that the Buffer joined.
-use Rattle.std.proofs.Common.{◌≡◌, Some, sym, ap, ◌∙◌, rules, arith}
-use Rattle.std.proofs.lemmas.Grind.{common_steps}
+use Rattle.std.proofs.Common.{rules}
 use Rattle.graphiti.proofs.Bypassing.{Removal, feeds_some, source_live, target_live, can_join_ids, dropped, others_kept}
 use Rattle.graphiti.proofs.strip.bypass.Goals as goal
 
 pub unreachable-requires : goal.unreachable-requires
 unreachable-requires c =
-    let removal : Removal c.args.g.now c.args.id c.remove_node.new.self =
-    record { removed = c.remove_node.result; node = c.remove_node.ensures.node; gone = c.remove_node.ensures.gone; names = c.remove_node.ensures.names } in
-    feeds_some c.args.g.now c.requires.typed c.args.id c.args.source c.requires.fed c.remove_node.new.self removal c.first_port.result c.first_port.ensures c.in_default.ensures.none
+    let removal : Removal c.args.g.now c.args.id c.args.source c.remove_node.new.self c.first_port.result =
+    record { typed = c.requires.typed; is = c.requires.fed; first = c.first_port.ensures; removed = c.remove_node.result; node = c.remove_node.ensures.node; gone = c.remove_node.ensures.gone; names = c.remove_node.ensures.names } in
+    feeds_some removal c.in_default.ensures.none
 
 pub unreachable-requires-in-Err-UnknownPort : goal.unreachable-requires-in-Err-UnknownPort
 unreachable-requires-in-Err-UnknownPort c =
-    let removal : Removal c.args.g.now c.args.id c.remove_node.new.self =
-    record { removed = c.remove_node.result; node = c.remove_node.ensures.node; gone = c.remove_node.ensures.gone; names = c.remove_node.ensures.names } in
-    let live = source_live c.args.g.now c.requires.typed c.args.id c.args.source c.requires.fed c.remove_node.new.self removal c.first_port.result c.first_port.ensures in
-    let live' = target_live c.args.g.now c.requires.typed c.args.id c.args.source c.requires.fed c.remove_node.new.self removal c.first_port.result c.first_port.ensures c.in-Some.target c.in-Some.ensures.names c.in-Some.ensures.live in
-    let can = can_join_ids c.args.g.now c.requires.typed c.args.id c.args.source c.requires.fed c.remove_node.new.self removal c.first_port.result c.first_port.ensures c.in-Some.target c.in-Some.ensures.names in
-    let no_memory = c.in-Err-UnknownPort.ensures.can live live' can in
+    let removal : Removal c.args.g.now c.args.id c.args.source c.remove_node.new.self c.first_port.result =
+    record { typed = c.requires.typed; is = c.requires.fed; first = c.first_port.ensures; removed = c.remove_node.result; node = c.remove_node.ensures.node; gone = c.remove_node.ensures.gone; names = c.remove_node.ensures.names } in
+    let no_memory =
+    c.in-Err-UnknownPort.ensures.can (source_live removal) (target_live removal c.in-Some.target c.in-Some.ensures.names c.in-Some.ensures.live) (can_join_ids removal c.in-Some.target c.in-Some.ensures.names) in
     search rules
 
 pub returns-in-Ok-clause-dropped : goal.returns-in-Ok-clause-dropped
 returns-in-Ok-clause-dropped c =
-    let removal : Removal c.args.g.now c.args.id c.remove_node.new.self =
-    record { removed = c.remove_node.result; node = c.remove_node.ensures.node; gone = c.remove_node.ensures.gone; names = c.remove_node.ensures.names } in
-    dropped c.args.g.now c.requires.typed c.args.id c.args.source c.requires.fed c.remove_node.new.self removal c.first_port.result c.first_port.ensures c.in-Some.target c.in-Some.ensures.names c.add_wire.new.self c.in-Ok.ensures.names
+    let removal : Removal c.args.g.now c.args.id c.args.source c.remove_node.new.self c.first_port.result =
+    record { typed = c.requires.typed; is = c.requires.fed; first = c.first_port.ensures; removed = c.remove_node.result; node = c.remove_node.ensures.node; gone = c.remove_node.ensures.gone; names = c.remove_node.ensures.names } in
+    dropped removal c.in-Some.target c.in-Some.ensures.names c.add_wire.new.self c.in-Ok.ensures.names
 
 pub returns-in-Ok-clause-others : goal.returns-in-Ok-clause-others
 returns-in-Ok-clause-others c =
-    let removal : Removal c.args.g.now c.args.id c.remove_node.new.self =
-    record { removed = c.remove_node.result; node = c.remove_node.ensures.node; gone = c.remove_node.ensures.gone; names = c.remove_node.ensures.names } in
-    others_kept c.args.g.now c.requires.typed c.args.id c.args.source c.requires.fed c.remove_node.new.self removal c.first_port.result c.first_port.ensures c.in-Some.target c.in-Some.ensures.names c.add_wire.new.self c.in-Ok.ensures.ok
+    let removal : Removal c.args.g.now c.args.id c.args.source c.remove_node.new.self c.first_port.result =
+    record { typed = c.requires.typed; is = c.requires.fed; first = c.first_port.ensures; removed = c.remove_node.result; node = c.remove_node.ensures.node; gone = c.remove_node.ensures.gone; names = c.remove_node.ensures.names } in
+    others_kept removal c.in-Some.target c.in-Some.ensures.names c.add_wire.new.self c.in-Ok.ensures.ok
