@@ -31,12 +31,37 @@ fn node_of(alloc: Global, name: &str, kind: Kind) -> Result<Node, Fail>
     })
 }
 
+/// A graph with nodes of one name each: an entry, a buffer, a fork of two, an exit, and an exit of another shape.
+#[derive(Drop)]
+struct Parts {
+    g: Graph,
+    entry: NodeId,
+    buffer: NodeId,
+    fork: NodeId,
+    exit: NodeId,
+    narrow: NodeId,
+}
+
 fn added(g: &mut Graph, alloc: Global, name: &str, kind: Kind) -> Result<NodeId, Fail> {
-    Ok(
-        g.add_node(node_of(alloc, name, kind)?)
-            .ok()
-            .ok_or("not added")?,
-    )
+    let node = node_of(alloc, name, kind)?;
+    Ok(g.add_node(node).ok().ok_or("not added")?)
+}
+
+fn make_parts(alloc: Global) -> Result<Parts, Fail> {
+    let mut g = Graph::new(alloc);
+    let buffer = added(&mut g, alloc, "z", Kind::Buffer(shape_of(alloc, 8)?))?;
+    let entry = added(&mut g, alloc, "a", Kind::Entry(shape_of(alloc, 8)?))?;
+    let fork = added(&mut g, alloc, "a2", Kind::Fork(shape_of(alloc, 8)?, 2))?;
+    let narrow = added(&mut g, alloc, "Z", Kind::Exit(shape_of(alloc, 4)?))?;
+    let exit = added(&mut g, alloc, "a10", Kind::Exit(shape_of(alloc, 8)?))?;
+    Ok(Parts {
+        g,
+        entry,
+        buffer,
+        fork,
+        exit,
+        narrow,
+    })
 }
 
 fn port(node: NodeId, port: u8) -> PortAt {
@@ -69,23 +94,22 @@ fn names(rt: HostRuntime) -> Result<(), Fail> {
 }
 
 #[test]
-fn ports_of_kinds(rt: HostRuntime) -> Result<(), Fail> {
+fn counts_of_forks(rt: HostRuntime) -> Result<(), Fail> {
     let alloc = rt.alloc();
-    for (kind, ins, outs) in [
-        (Kind::Entry(shape_of(alloc, 8)?), 0, 1),
-        (Kind::Exit(shape_of(alloc, 8)?), 1, 0),
-        (Kind::Buffer(shape_of(alloc, 8)?), 1, 1),
-        (Kind::Fork(shape_of(alloc, 8)?, 1), 1, 1),
-        (Kind::Fork(shape_of(alloc, 8)?, 64), 1, 64),
-    ] {
-        assert!(rt; kind_ok(&kind));
-        assert_eq!(rt; inputs(&kind), ins, "{kind:?}");
-        assert_eq!(rt; outputs(&kind), outs, "{kind:?}");
-    }
-    for count in [0, 65, 255] {
+    for (count, want) in [(0, false), (1, true), (64, true), (65, false), (255, false)] {
         let kind = Kind::Fork(shape_of(alloc, 8)?, count);
-        assert!(rt; !kind_ok(&kind), "{count}");
+        assert_eq!(rt; kind_ok(&kind), want, "{count}");
+        if kind_ok(&kind) {
+            assert_eq!(rt; inputs(&kind), 1, "{count}");
+            assert_eq!(rt; outputs(&kind), count);
+        }
     }
+    Ok(())
+}
+
+#[test]
+fn shape_of_a_port(rt: HostRuntime) -> Result<(), Fail> {
+    let alloc = rt.alloc();
     let kind = Kind::Fork(shape_of(alloc, 8)?, 3);
     assert!(rt; kind_ok(&kind));
     let shape = port_shape(alloc, &kind, Side::Outs, 3)?;
@@ -94,28 +118,27 @@ fn ports_of_kinds(rt: HostRuntime) -> Result<(), Fail> {
 }
 
 #[test]
-fn wires_of_a_graph(rt: HostRuntime) -> Result<(), Fail> {
-    let alloc = rt.alloc();
-    let mut g = Graph::new(alloc);
-    assert_eq!(rt; check_typed(&g), Ok(()));
-    let buffer = added(&mut g, alloc, "z", Kind::Buffer(shape_of(alloc, 8)?))?;
-    let entry = added(&mut g, alloc, "in", Kind::Entry(shape_of(alloc, 8)?))?;
-    let fork = added(&mut g, alloc, "fork", Kind::Fork(shape_of(alloc, 8)?, 2))?;
-    let narrow = added(&mut g, alloc, "b", Kind::Exit(shape_of(alloc, 4)?))?;
-    let exit = added(&mut g, alloc, "in2", Kind::Exit(shape_of(alloc, 8)?))?;
-
-    assert_eq!(rt; check_typed(&g), open_at(buffer, Side::Ins, 1));
+fn wires_are_added(rt: HostRuntime) -> Result<(), Fail> {
+    let Parts {
+        mut g,
+        entry,
+        buffer,
+        fork,
+        exit,
+        narrow,
+    } = make_parts(rt.alloc())?;
+    let (unknown, taken) = (Err(AddWire::UnknownPort), Err(AddWire::PortTaken));
     for (source, target, answer, typed) in [
         (
             port(entry, 2),
             port(buffer, 1),
-            Err(AddWire::UnknownPort),
+            unknown,
             open_at(buffer, Side::Ins, 1),
         ),
         (
             port(entry, 1),
             port(buffer, 0),
-            Err(AddWire::UnknownPort),
+            unknown,
             open_at(buffer, Side::Ins, 1),
         ),
         (
@@ -127,13 +150,13 @@ fn wires_of_a_graph(rt: HostRuntime) -> Result<(), Fail> {
         (
             port(buffer, 1),
             port(buffer, 1),
-            Err(AddWire::PortTaken),
+            taken,
             open_at(buffer, Side::Outs, 1),
         ),
         (
             port(entry, 1),
             port(narrow, 1),
-            Err(AddWire::PortTaken),
+            taken,
             open_at(buffer, Side::Outs, 1),
         ),
         (
@@ -162,46 +185,68 @@ fn wires_of_a_graph(rt: HostRuntime) -> Result<(), Fail> {
         );
         assert_eq!(rt; check_typed(&g), typed, "{source:?} to {target:?}");
     }
-    assert_eq!(rt; g.wire_into(port(fork, 1)), Some(port(buffer, 1)));
-    assert_eq!(rt; g.wire_into(port(narrow, 1)), None);
-    assert_eq!(rt; g.wire_from(port(fork, 1)), Some(port(exit, 1)));
-    assert_eq!(rt; g.wire_from(port(fork, 2)), None);
+    for (target, source) in [
+        (port(fork, 1), Some(port(buffer, 1))),
+        (port(narrow, 1), None),
+    ] {
+        assert_eq!(rt; g.wire_into(target), source, "{target:?}");
+    }
+    for (source, target) in [(port(fork, 1), Some(port(exit, 1))), (port(fork, 2), None)] {
+        assert_eq!(rt; g.wire_from(source), target, "{source:?}");
+    }
     Ok(())
 }
 
 #[test]
-fn nodes_of_a_graph(rt: HostRuntime) -> Result<(), Fail> {
+fn all_ports_on_wires(rt: HostRuntime) -> Result<(), Fail> {
     let alloc = rt.alloc();
     let mut g = Graph::new(alloc);
-    let entry = added(&mut g, alloc, "a", Kind::Entry(shape_of(alloc, 8)?))?;
-    let gone = added(&mut g, alloc, "a2", Kind::Buffer(shape_of(alloc, 8)?))?;
-    let exit = added(&mut g, alloc, "a10", Kind::Exit(shape_of(alloc, 8)?))?;
-    let twin = node_of(alloc, "a2", Kind::Exit(shape_of(alloc, 8)?))?;
-    assert_eq!(rt; g.add_node(twin), Err(AddNode::NameTaken));
-    assert_eq!(rt; g.add_wire(port(entry, 1), port(gone, 1)), Ok(()));
-    assert_eq!(rt; g.add_wire(port(gone, 1), port(exit, 1)), Ok(()));
     assert_eq!(rt; check_typed(&g), Ok(()));
-    assert_eq!(rt;
-        g.by_name(alloc)?.as_slice(),
-        [entry, exit, gone].as_slice()
-    );
+    let exit = added(&mut g, alloc, "out", Kind::Exit(shape_of(alloc, 8)?))?;
+    let entry = added(&mut g, alloc, "in", Kind::Entry(shape_of(alloc, 8)?))?;
+    assert_eq!(rt; g.add_wire(port(entry, 1), port(exit, 1)), Ok(()));
+    assert_eq!(rt; check_typed(&g), Ok(()));
+    Ok(())
+}
 
-    let node = g.remove_node(gone).ok_or("no node")?;
-    assert_eq!(rt; node.name.as_str(), "a2");
-    assert!(rt; g.remove_node(gone).is_none());
-    assert_eq!(rt; g.find(b"a2"), None);
-    assert!(rt; g.node(gone).is_none());
-    assert_eq!(rt; g.find(b"a10"), Some(exit));
-    let left = g.node(exit).ok_or("no node")?;
-    assert_eq!(rt; left.name.as_str(), "a10");
-    assert_eq!(rt; g.wire_into(port(exit, 1)), None);
+#[test]
+fn names_are_in_order(rt: HostRuntime) -> Result<(), Fail> {
+    let Parts {
+        mut g,
+        entry,
+        buffer,
+        fork,
+        exit,
+        narrow,
+    } = make_parts(rt.alloc())?;
+    let ids = g.by_name(rt.alloc())?;
+    assert_eq!(rt;
+        ids.as_slice(),
+        [narrow, entry, exit, fork, buffer].as_slice()
+    );
+    let twin = node_of(rt.alloc(), "a10", Kind::Entry(shape_of(rt.alloc(), 8)?))?;
+    assert_eq!(rt; g.add_node(twin), Err(AddNode::NameTaken));
+    Ok(())
+}
+
+#[test]
+fn ids_of_others_stay(rt: HostRuntime) -> Result<(), Fail> {
+    let Parts {
+        mut g,
+        entry,
+        buffer,
+        exit,
+        ..
+    } = make_parts(rt.alloc())?;
+    assert_eq!(rt; g.add_wire(port(entry, 1), port(buffer, 1)), Ok(()));
+    assert_eq!(rt; g.add_wire(port(buffer, 1), port(exit, 1)), Ok(()));
+    let gone = g.remove_node(buffer).ok_or("no node")?;
+    assert_eq!(rt; gone.name.as_str(), "z");
+    assert!(rt; g.remove_node(buffer).is_none());
+    for (name, id) in [("z", None), ("a", Some(entry)), ("a10", Some(exit))] {
+        assert_eq!(rt; g.find(name.as_bytes()), id, "{name}");
+    }
+    assert!(rt; g.node(buffer).is_none());
     assert_eq!(rt; check_typed(&g), open_at(entry, Side::Outs, 1));
-
-    let behind = added(&mut g, alloc, "Z", Kind::Buffer(shape_of(alloc, 8)?))?;
-    assert!(rt; behind != gone && behind != exit);
-    assert_eq!(rt;
-        g.by_name(alloc)?.as_slice(),
-        [behind, entry, exit].as_slice()
-    );
     Ok(())
 }
