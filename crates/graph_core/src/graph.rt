@@ -1,7 +1,7 @@
 ghost use Rattle.std.specs.Prelude.{◌≡◌, ◌≢◌, ◌↔◌, ◌⊎◌, [], ◌∷◌, length, map, Some, None, Ok, Err, IsTrue, IsSome, IsNone, IsOk, IfSome, IfNone, IfOk, IfErr, OnOk, OnErr, OnSome, IsOkUnless, is_some, MatchOption, MatchResult};
 ghost use Rattle.std.specs.Option.{option_copied, option_map};
 ghost use Rattle.std.specs.FinMap as map_of;
-ghost use Rattle.graph_core.specs.Name.{IsName};
+ghost use Rattle.graph_core.specs.Name.{IsName, Port};
 ghost use Rattle.graph_core.specs.Node.{NodeOk, body_of};
 ghost use Rattle.graph_core.specs.NamedGraph.{CanWire, IsTyped, no_graph, with_node, with_wire, without_node};
 ghost use Rattle.graph_core.specs.GraphValue.{by_names, node_at, named, next_id, port_named, shape_at, HasName, with_slot, with_feeder, without_slot};
@@ -166,6 +166,7 @@ impl Graph {
         ensures live { option_copied result ≡ node_at self.now id }
         ensures right { IfSome (node_at self.now id) NodeOk }
         ensures names { IfSome (node_at self.now id) (λ node. map_of.get (by_names self.now).nodes node.name ≡ Some (body_of node)) }
+        ensures alone { IfSome (node_at self.now id) (λ node. (other : NodeId) → HasName self.now other node.name → other ≡ id) }
     {
         node_in(&self.nodes, id.index())
     }
@@ -194,6 +195,8 @@ impl Graph {
         ensures none { IfNone result ((target : PortAt) → map_of.get self.now.feeders target ≢ Some source) }
         ensures live { IfSome result (λ target. IsSome (node_at self.now target.node)) }
         ensures names { IfSome result (λ target. map_of.get (by_names self.now).feeders (port_named self.now target) ≡ Some (port_named self.now source)) }
+        ensures none_by_name { IsSome (node_at self.now source.node)
+            → IfNone result ((target : Port) → map_of.get (by_names self.now).feeders target ≢ Some (port_named self.now source)) }
     {
         target_in(&self.wires, source)
     }

@@ -1,12 +1,13 @@
 use Rattle.std.proofs.Common.{◌≡◌, ◌∙◌, Some, sym, ap, subst}
 use Rattle.std.specs.FinMap as map
 use Rattle.graph_core.specs.declared.place.PortAt.{PortAt}
-use Rattle.graph_core.specs.GraphValue.{IsGraph}
+use Rattle.graph_core.specs.GraphValue.{IsGraph, node_at, port_named}
 use Rattle.graph_core.specs.Place.{place_cmp}
 use Rattle.graph_core.specs.Inside.{feeder_list, AreApart}
 use Rattle.port_types.specs.declared.side.Side.TheVariants.{Ins}
 use Rattle.graph_core.proofs.SlotLists.{if_some, if_none, at_some, at_none}
-use Rattle.graph_core.proofs.ByNames.{wire_found}
+use Rattle.graph_core.proofs.Options.{some_there}
+use Rattle.graph_core.proofs.ByNames.{wire_found, wire_behind, wire_ends, same_port}
 use Rattle.graph_core.proofs.Finding.{lookup_is, live_where_shaped}
 use Rattle.graph_core.proofs.graph.Graph.wire_from.Goals as goal
 
@@ -37,3 +38,13 @@ pub returns-clause-names : goal.returns-clause-names
 returns-clause-names c =
     let ok = subst IsGraph c.self.view_is c.self.invariant.0 in
     if_some c.target_in.result _ (λ target e. wire_found c.args.self.now ok target c.args.source (fed c target e))
+
+pub returns-clause-none_by_name : goal.returns-clause-none_by_name
+returns-clause-none_by_name c there =
+    let ok = subst IsGraph c.self.view_is c.self.invariant.0 in
+    let node = some_there (node_at c.args.self.now c.args.source.node) there in
+    if_none c.target_in.result _ (λ e target found.
+    let wire = wire_behind c.args.self.now target (port_named c.args.self.now c.args.source) found in
+    let ends = wire_ends c.args.self.now ok wire.to wire.from wire.wired in
+    let from : wire.from ≡ c.args.source = same_port c.args.self.now ok.names wire.from c.args.source ends.from node.0 ends.live_from node.1 wire.is_from in
+    at_none c.target_in.result _ e c.target_in.ensures.none wire.to (looked_up c wire.to ∙ wire.wired ∙ ap Some from))
