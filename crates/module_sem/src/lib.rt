@@ -1,0 +1,2 @@
+//! What circuits do.
+#![tactic(auto)]
