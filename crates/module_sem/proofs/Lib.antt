@@ -5,3 +5,6 @@ pub mod Sim
 pub mod Linking
 pub mod Rows
 pub mod Fitting
+pub mod Beside
+pub mod Refining
+pub mod Matching
