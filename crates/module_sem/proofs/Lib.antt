@@ -8,3 +8,8 @@ pub mod Fitting
 pub mod Beside
 pub mod Refining
 pub mod Matching
+pub mod Dropping
+pub mod Dropped
+pub mod Renaming
+pub mod Transitive
+pub mod Together
