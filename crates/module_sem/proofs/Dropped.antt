@@ -1,16 +1,16 @@
 -- A circuit without a Buffer is typed; each refines the other.
-use Rattle.std.proofs.Common.{◌≡◌, ◌≢◌, inl, inr, refl, sym, ap, ◌∙◌, if◌then◌else◌, [], ◌∷◌, Option, Some, None}
+use Rattle.std.proofs.Common.{◌≡◌, ◌≢◌, inl, inr, refl, sym, ap, subst, ◌∙◌, if◌then◌else◌, [], ◌∷◌, Option, Some, None}
 use Rattle.graph_core.specs.declared.kind.Kind.{Kind}
-use Rattle.graph_core.specs.declared.kind.Kind.TheVariants.{Entry, Exit}
+use Rattle.graph_core.specs.declared.kind.Kind.TheVariants.{Entry, Exit, Buffer, Fork}
 use Rattle.graph_core.specs.Name.{Name, Port, port_get}
-use Rattle.graph_core.specs.Kind.{ins, outs}
+use Rattle.graph_core.specs.Kind.{Shape, ins, outs}
 use Rattle.module_sem.specs.Circuit.{Circuit, Wire, Typed}
 use Rattle.module_sem.specs.Refines.{SamePorts, Refines}
-use Rattle.module_sem.specs.Buffers.{bypass, drop_node}
+use Rattle.module_sem.specs.Buffers.{bypass, drop_node, PassesOn, CanDropBuffer}
 use Rattle.module_sem.proofs.Names.{name_cases, other_test, same_test}
 use Rattle.module_sem.proofs.Steps.{some_inj}
 use Rattle.module_sem.proofs.Matching.{matches_refines}
-use Rattle.module_sem.proofs.Dropping.{CanDrop, kind_dropped, kind_gone, feeder_dropped, feeder_gone, single_port, out_port, drop_matches, undrop_matches}
+use Rattle.module_sem.proofs.Dropping.{CanDrop, IsPlain, buffer_plain, fork_plain, kind_dropped, kind_gone, feeder_dropped, feeder_gone, single_port, out_port, drop_matches, undrop_matches}
 
 -- what feeds an input without b: what fed it, or what fed b
 pub data Fed (c : Circuit) (b : Name) (p q : Port) : Type 0 where
@@ -156,3 +156,20 @@ module _ (c : Circuit) (b : Name) (can : CanDrop c b) (ty : Typed c) where
       matches_refines c (drop_node b c) ty drop_typed
       (record { entries = λ n a. ((drop_ports.entries n a).1, (drop_ports.entries n a).0); exits = λ n a. ((drop_ports.exits n a).1, (drop_ports.exits n a).0) })
       (undrop_matches c b can ty)
+
+plain_of : (k : Kind) → PassesOn k → (a : Shape) × IsPlain k a
+plain_of (Buffer a) h = (a, buffer_plain a)
+plain_of (Fork a k) h = (a, subst (λ z. IsPlain (Fork a z) a) (sym h) (fork_plain a))
+plain_of _ h = absurd h
+
+pub can_drop_of : (c : Circuit) (b : Name) → CanDropBuffer c b → CanDrop c b
+can_drop_of c b can =
+    let (a, plain) = plain_of can.kind can.passes in
+    record { kind = can.kind; shape = a; is_kind = can.is_kind; plain = plain; before = can.before; is_before = can.is_before; other = can.other }
+
+-- a Buffer dropped, and put
+pub dropped : (c : Circuit) (b : Name) → Typed c → CanDropBuffer c b → Refines (drop_node b c) c
+dropped c b ty can = drop_refines c b (can_drop_of c b can) ty
+
+pub put : (c : Circuit) (b : Name) → Typed c → CanDropBuffer c b → Refines c (drop_node b c)
+put c b ty can = undrop_refines c b (can_drop_of c b can) ty

@@ -13,3 +13,8 @@ pub mod Dropped
 pub mod Renaming
 pub mod Transitive
 pub mod Together
+pub mod Plugged
+pub mod Alone
+pub mod Maps
+pub mod GraphCircuits
+pub mod GraphBuffers

@@ -6,9 +6,8 @@ use Rattle.graph_core.specs.declared.kind.Kind.TheVariants.{Buffer, Fork}
 use Rattle.graph_core.specs.Name.{Name, Port}
 use Rattle.graph_core.specs.Kind.{Shape}
 use Rattle.graph_core.specs.Node.{Body}
-use Rattle.graph_core.specs.NamedGraph.{NamedGraph, IsTyped, without_node, with_wire}
-use Rattle.module_sem.specs.Circuit.{Circuit, circuit_of}
-use Rattle.module_sem.specs.Refines.{Refines}
+use Rattle.graph_core.specs.NamedGraph.{NamedGraph, without_node, with_wire}
+use Rattle.module_sem.specs.Circuit.{Circuit}
 
 -- the one port of a side
 abbrev pub first_port : Name → Port
@@ -41,3 +40,16 @@ pub record CanDropBuffer (c : Circuit) (b : Name) : Type 0 where
   pub before : Port
   pub is_before : c.feeder (first_port b) ≡ Some before
   pub other : before.node ≢ b
+
+-- graph h is graph g without the Buffer b, which is not wired to itself
+pub record IsWithoutBuffer (h g : NamedGraph) (b : Name) : Type 0 where
+  pub body : Body
+  pub shape : Shape
+  pub is_body : map.get g.nodes b ≡ Some body
+  pub is_buffer : body.kind ≡ Buffer shape
+  pub source : Port
+  pub target : Port
+  pub before : map.get g.feeders (first_port b) ≡ Some source
+  pub after : map.get g.feeders target ≡ Some (first_port b)
+  pub other : source.node ≢ b
+  pub is : h ≡ with_wire (without_node g b) source target

@@ -7,3 +7,4 @@ pub mod Run
 pub mod Plug
 pub mod Refines
 pub mod Buffers
+pub mod Laws
