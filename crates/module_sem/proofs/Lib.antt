@@ -18,3 +18,5 @@ pub mod Alone
 pub mod Maps
 pub mod GraphCircuits
 pub mod GraphBuffers
+pub mod Regrouping
+pub mod Splitting
