@@ -83,8 +83,8 @@ module _ (h g : NamedGraph) (b : Name) (ty : IsTyped g) (w : IsWithoutBuffer h g
       ap circuit_of w.is
       ∙ circuit_same _ _ (λ n. ap kind_of_body (get_without_name g.nodes b n) ∙ kind_without (bytes_eq n b) (map.get g.nodes n)) feeder_at
 
-  pub graph_without_refines : Refines (circuit_of h) (circuit_of g)
-  graph_without_refines = subst (λ c. Refines c (circuit_of g)) (sym without_circuit) (dropped (circuit_of g) b typed can_drop)
+  pub graph_drop_refines : Refines (circuit_of h) (circuit_of g)
+  graph_drop_refines = subst (λ c. Refines c (circuit_of g)) (sym without_circuit) (dropped (circuit_of g) b typed can_drop)
 
-  pub graph_with_refines : Refines (circuit_of g) (circuit_of h)
-  graph_with_refines = subst (Refines (circuit_of g)) (sym without_circuit) (put (circuit_of g) b typed can_drop)
+  pub graph_put_refines : Refines (circuit_of g) (circuit_of h)
+  graph_put_refines = subst (Refines (circuit_of g)) (sym without_circuit) (put (circuit_of g) b typed can_drop)

@@ -1,4 +1,4 @@
--- A typed graph by names stands for a typed circuit.
+-- A graph by names is typed exactly where its circuit is.
 use Rattle.std.proofs.Common.{◌≡◌, ℕ, ◌+◌, ◌<◌, inl, inr, refl, sym, ap, subst, ◌∙◌, bytes_eq, cond, length, List, [], ◌∷◌, Option, Some, None, arith}
 use Rattle.std.specs.FinMap as map
 use Rattle.graph_core.specs.declared.kind.Kind.{Kind}
@@ -38,6 +38,7 @@ name_short (x ∷ es) n body e =
           omega (arith, short)
     ]
 
+-- a typed graph stands for a typed circuit
 module _ (g : NamedGraph) (ty : IsTyped g) where
   behind : (n : Name) (k : Kind) → (circuit_of g).kind_at n ≡ Some k → HasBody (map.get g.nodes n) k
   behind n k e = body_behind (map.get g.nodes n) k e
@@ -67,4 +68,31 @@ module _ (g : NamedGraph) (ty : IsTyped g) where
           total_length (map.entries g.nodes),
           λ n k e. let at = behind n k e in name_short (map.entries g.nodes) n at.body (sym (map.get-entries g.nodes n) ∙ at.is_body),
         );
+      }
+
+-- a graph is typed where its circuit is
+module _ (g : NamedGraph) (ty : Typed (circuit_of g)) where
+  graph_wire : (target source : Port) → map.get g.feeders target ≡ Some source → IsWire g source target
+  graph_wire target source e =
+      let w = ty.wires target source e in
+      let from = body_behind (map.get g.nodes source.node) w.source w.is_source in
+      let to = body_behind (map.get g.nodes target.node) w.target w.is_target in
+      record {
+        from = from.body;
+        to = to.body;
+        shape = w.shape;
+        is_from = from.is_body;
+        is_to = to.is_body;
+        leaves = ap (λ x. port_get (outs x) source.port) from.is_kind ∙ w.leaves;
+        enters = ap (λ x. port_get (ins x) target.port) to.is_kind ∙ w.enters;
+      }
+
+  pub graph_typed : IsTyped g
+  graph_typed =
+      record {
+        kinds = λ n body e. ty.kinds n body.kind (ap kind_of_body e);
+        wires = graph_wire;
+        inputs = λ p body a e f. ty.inputs p body.kind a (ap kind_of_body e) f;
+        outputs = λ p body a e f. ty.outputs p body.kind a (ap kind_of_body e) f;
+        once = ty.once;
       }

@@ -20,3 +20,4 @@ pub mod GraphCircuits
 pub mod GraphBuffers
 pub mod Regrouping
 pub mod Splitting
+pub mod Parts

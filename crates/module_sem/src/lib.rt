@@ -1,9 +1,9 @@
 //! What circuits do: their states and steps, what is seen of a run, and when one circuit refines another.
 //!
-//! The crate has definitions and laws, and no calls: each function has an empty body, and its contract is a law of `specs/Laws.antt`.
+//! The crate has definitions and laws, and no calls: each function has an empty body, and a law of `specs/` for its contract.
 #![tactic(auto)]
 
-ghost use Rattle.module_sem.specs.Laws.{StartIsState, StepKeepsState, RefinesItself, RefinesInSteps, RefinesAlone, PlugIsTyped, DropRefines, PutRefines, CircuitIsTyped, GraphWithoutBufferRefines, GraphWithBufferRefines};
+ghost use Rattle.module_sem.specs.Laws.{StartIsState, StepKeepsState, RefinesItself, RefinesInSteps, RefinesAlone, PlugIsTyped, WholeRefines, DropRefines, PutRefines, CircuitIsTyped, GraphIsTyped, GraphDropRefines, GraphPutRefines};
 
 /// In each state that a typed circuit reaches, tokens fit the shapes of their wires.
 pub fn states_fit()
@@ -30,28 +30,35 @@ pub fn refines_alone()
 {
 }
 
-/// A circuit that is plugged into another makes a typed circuit with it.
+/// Two typed circuits that are plugged together make a typed one.
 pub fn plugged_is_typed()
     ensures { PlugIsTyped }
 {
 }
 
-/// A circuit shows the same with a Buffer on a wire as without.
+/// A circuit with a part that refines another refines the circuit with the other.
+pub fn whole_refines()
+    ensures { WholeRefines }
+{
+}
+
+/// A circuit shows the same with a Buffer on a wire and without it.
 pub fn buffer_shows_nothing()
     ensures dropped { DropRefines }
     ensures put { PutRefines }
 {
 }
 
-/// A typed graph stands for a typed circuit.
-pub fn graph_circuit_is_typed()
-    ensures { CircuitIsTyped }
+/// A graph is typed exactly where its circuit is.
+pub fn graph_typed_as_circuit()
+    ensures circuit { CircuitIsTyped }
+    ensures graph { GraphIsTyped }
 {
 }
 
-/// A graph shows the same with a Buffer on a wire as without.
+/// A graph shows the same with a Buffer on a wire and without it.
 pub fn graph_buffer_shows_nothing()
-    ensures without { GraphWithoutBufferRefines }
-    ensures with { GraphWithBufferRefines }
+    ensures dropped { GraphDropRefines }
+    ensures put { GraphPutRefines }
 {
 }

@@ -1,8 +1,8 @@
-use Rattle.module_sem.proofs.GraphBuffers.{graph_without_refines, graph_with_refines}
+use Rattle.module_sem.proofs.GraphBuffers.{graph_drop_refines, graph_put_refines}
 use Rattle.module_sem.proofs.graph_buffer_shows_nothing.Goals as goal
 
-pub returns-clause-without : goal.returns-clause-without
-returns-clause-without c = graph_without_refines
+pub returns-clause-dropped : goal.returns-clause-dropped
+returns-clause-dropped c = graph_drop_refines
 
-pub returns-clause-with : goal.returns-clause-with
-returns-clause-with c = graph_with_refines
+pub returns-clause-put : goal.returns-clause-put
+returns-clause-put c = graph_put_refines
