@@ -21,3 +21,4 @@ pub mod GraphBuffers
 pub mod Regrouping
 pub mod Splitting
 pub mod Parts
+pub mod LoneWire

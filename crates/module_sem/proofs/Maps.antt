@@ -52,6 +52,9 @@ port_cases p q = port_cases_at p q (eq_by_cmp port_cmp p q) refl
 pub get_without_name : {X : Type 0} (m : FinMap name_cmp X) (k q : Name) → get (remove m k) q ≡ cond (bytes_eq q k) None (get m q)
 get_without_name m k q = get-remove name_total m k q ∙ ap (λ b. cond b None (get m q)) (name_test q k)
 
+pub get_with_name : {X : Type 0} (m : FinMap name_cmp X) (k : Name) (v : X) (q : Name) → get (insert m k v) q ≡ cond (bytes_eq q k) (Some v) (get m q)
+get_with_name m k v q = get-insert name_total m k v q ∙ ap (λ b. cond b (Some v) (get m q)) (name_test q k)
+
 pub get_with_port : {X : Type 0} (m : FinMap port_cmp X) (k : Port) (v : X) (q : Port) → get (insert m k v) q ≡ cond (eq_by_cmp port_cmp q k) (Some v) (get m q)
 get_with_port m k v q = get-insert port_total m k v q
 

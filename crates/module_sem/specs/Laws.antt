@@ -1,7 +1,11 @@
 -- The laws of circuits. Each is proved of a function of this crate.
-use Rattle.std.specs.Prelude.{List}
+use Rattle.std.specs.Prelude.{List, [], ◌∷◌}
+use Rattle.port_types.specs.Shape.{IsShape}
+use Rattle.port_types.specs.Token.{Fits}
 use Rattle.graph_core.specs.Name.{Name}
+use Rattle.graph_core.specs.Kind.{Shape}
 use Rattle.graph_core.specs.NamedGraph.{NamedGraph, IsTyped}
+use Rattle.module_sem.specs.Side.{Token}
 use Rattle.module_sem.specs.Circuit.{Circuit, Typed, circuit_of}
 use Rattle.module_sem.specs.State.{State, start, IsStateOf}
 use Rattle.module_sem.specs.Firing.{Label}
@@ -9,6 +13,7 @@ use Rattle.module_sem.specs.Run.{Step, Move, Shows}
 use Rattle.module_sem.specs.Plug.{Link, plug, CanPlug}
 use Rattle.module_sem.specs.Refines.{Refines}
 use Rattle.module_sem.specs.Buffers.{drop_node, CanDropBuffer, IsWithoutBuffer}
+use Rattle.module_sem.specs.LoneWire.{lone_wire, fed, took}
 
 -- what a typed circuit holds at the start fits
 abbrev pub StartIsState : Type 0
@@ -63,3 +68,15 @@ GraphDropRefines = (h g : NamedGraph) (b : Name) → IsTyped g → IsWithoutBuff
 -- nor with it
 abbrev pub GraphPutRefines : Type 0
 GraphPutRefines = (h g : NamedGraph) (b : Name) → IsTyped g → IsWithoutBuffer h g b → Refines (circuit_of g) (circuit_of h)
+
+-- a wire from an Entry to an Exit is typed
+abbrev pub WireIsTyped : Type 0
+WireIsTyped = (shape : Shape) → IsShape shape → IsTyped (lone_wire shape)
+
+-- a token that is fed to it can be taken from it
+abbrev pub WireShowsToken : Type 0
+WireShowsToken = (shape : Shape) (v : Token) → Fits shape v → Shows (circuit_of (lone_wire shape)) (fed v ∷ took v ∷ [])
+
+-- and none can be taken before
+abbrev pub WireShowsNoOther : Type 0
+WireShowsNoOther = (shape : Shape) (v : Token) → ¬ (Shows (circuit_of (lone_wire shape)) (took v ∷ []))

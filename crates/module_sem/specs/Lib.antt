@@ -7,4 +7,5 @@ pub mod Run
 pub mod Plug
 pub mod Refines
 pub mod Buffers
+pub mod LoneWire
 pub mod Laws

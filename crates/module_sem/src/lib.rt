@@ -3,7 +3,7 @@
 //! The crate has definitions and laws, and no calls: each function has an empty body, and a law of `specs/` for its contract.
 #![tactic(auto)]
 
-ghost use Rattle.module_sem.specs.Laws.{StartIsState, StepKeepsState, RefinesItself, RefinesInSteps, RefinesAlone, PlugIsTyped, WholeRefines, DropRefines, PutRefines, CircuitIsTyped, GraphIsTyped, GraphDropRefines, GraphPutRefines};
+ghost use Rattle.module_sem.specs.Laws.{StartIsState, StepKeepsState, RefinesItself, RefinesInSteps, RefinesAlone, PlugIsTyped, WholeRefines, DropRefines, PutRefines, CircuitIsTyped, GraphIsTyped, GraphDropRefines, GraphPutRefines, WireIsTyped, WireShowsToken, WireShowsNoOther};
 
 /// In each state that a typed circuit reaches, tokens fit the shapes of their wires.
 pub fn states_fit()
@@ -60,5 +60,13 @@ pub fn graph_typed_as_circuit()
 pub fn graph_buffer_shows_nothing()
     ensures dropped { GraphDropRefines }
     ensures put { GraphPutRefines }
+{
+}
+
+/// The definitions are met and refuse: a wire from an Entry to an Exit shows a token that is fed and then taken, and none that is taken first.
+pub fn wire_shows_tokens()
+    ensures typed { WireIsTyped }
+    ensures token { WireShowsToken }
+    ensures no_other { WireShowsNoOther }
 {
 }
