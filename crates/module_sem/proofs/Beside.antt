@@ -8,10 +8,10 @@ use Rattle.module_sem.specs.Side.{Token, share, share_from}
 use Rattle.module_sem.specs.Circuit.{Circuit, kind_of, Typed}
 use Rattle.module_sem.specs.State.{SlotFits, State, start, initial, IsStateOf}
 use Rattle.module_sem.specs.Firing.{Label, Label.Feed, Label.Take, Label.Fire, Acts}
-use Rattle.module_sem.specs.Run.{Step}
+use Rattle.module_sem.specs.Run.{Step, Firing, Firings}
 use Rattle.module_sem.specs.Plug.{Apart, beside, or_else}
 use Rattle.module_sem.proofs.Steps.{some_inj, share_other, append_none}
-use Rattle.module_sem.proofs.Sim.{Firing, Firings, Inner, Sim, inner_then, inner_one, inner_none}
+use Rattle.module_sem.proofs.Sim.{Inner, Sim, inner_then, inner_one, inner_none}
 use Rattle.module_sem.proofs.Fitting.{step_fits, start_fits, take_fits}
 
 -- s and t are alike at the nodes of c

@@ -2,18 +2,17 @@
 use Rattle.std.proofs.Common.{◌≡◌, ◌≢◌, inl, inr, Bool, true, false, not, ◌||◌, refl, sym, ap, subst, ◌∙◌, bytes_eq, cond, if◌then◌else◌, Option, Some, None}
 use Rattle.std.specs.Ordering.{eq_by_cmp}
 use Rattle.std.specs.FinMap as map
-use Rattle.graph_core.specs.declared.kind.Kind.{Kind}
 use Rattle.graph_core.specs.declared.kind.Kind.TheVariants.{Buffer}
 use Rattle.graph_core.specs.Name.{Name, Port, port_cmp, port_get}
-use Rattle.graph_core.specs.Kind.{ins, outs}
+use Rattle.graph_core.specs.Kind.{ins}
 use Rattle.graph_core.specs.Node.{Body}
 use Rattle.graph_core.specs.NamedGraph.{NamedGraph, IsTyped, is_of, without_node, with_wire}
-use Rattle.module_sem.specs.Circuit.{Circuit, Typed, circuit_of, kind_of_body}
+use Rattle.module_sem.specs.Circuit.{Typed, circuit_of, kind_of_body}
 use Rattle.module_sem.specs.Refines.{Refines}
 use Rattle.module_sem.specs.Buffers.{first_port, bypass, drop_node, CanDropBuffer, IsWithoutBuffer}
 use Rattle.module_sem.proofs.Names.{name_cases, same_test, other_test}
 use Rattle.module_sem.proofs.Steps.{some_inj}
-use Rattle.module_sem.proofs.Dropping.{CanDrop, single_port, out_port}
+use Rattle.module_sem.proofs.Dropping.{single_port, out_port}
 use Rattle.module_sem.proofs.Dropped.{can_drop_of, dropped, put}
 use Rattle.module_sem.proofs.Renaming.{circuit_same}
 use Rattle.module_sem.proofs.Maps.{port_cases, get_without_name, get_with_port, get_kept_port}

@@ -1,12 +1,12 @@
 -- A graph by names is typed exactly where its circuit is.
-use Rattle.std.proofs.Common.{◌≡◌, ℕ, ◌+◌, ◌<◌, inl, inr, refl, sym, ap, subst, ◌∙◌, bytes_eq, cond, length, List, [], ◌∷◌, Option, Some, None, arith}
+use Rattle.std.proofs.Common.{◌≡◌, ℕ, ◌+◌, ◌<◌, inl, inr, refl, sym, ap, subst, ◌∙◌, cond, length, List, [], ◌∷◌, Option, Some, None, arith}
 use Rattle.std.specs.FinMap as map
 use Rattle.graph_core.specs.declared.kind.Kind.{Kind}
 use Rattle.graph_core.specs.Name.{Name, Port, name_cmp, port_get}
-use Rattle.graph_core.specs.Kind.{Shape, ins, outs, KindOk}
+use Rattle.graph_core.specs.Kind.{ins, outs, KindOk}
 use Rattle.graph_core.specs.Node.{Body}
 use Rattle.graph_core.specs.NamedGraph.{NamedGraph, IsWire, IsTyped}
-use Rattle.module_sem.specs.Circuit.{Circuit, Wire, Typed, circuit_of, kind_of_body}
+use Rattle.module_sem.specs.Circuit.{Wire, Typed, circuit_of, kind_of_body}
 use Rattle.module_sem.proofs.Names.{name_cases}
 use Rattle.module_sem.proofs.Steps.{some_inj}
 use Rattle.module_sem.proofs.Maps.{name_test}

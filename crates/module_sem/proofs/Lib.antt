@@ -3,22 +3,22 @@ pub mod Lists
 pub mod Steps
 pub mod Sim
 pub mod Linking
-pub mod Rows
+mod Rows
 pub mod Fitting
 pub mod Beside
 pub mod Refining
 pub mod Matching
 pub mod Dropping
-pub mod Dropped
-pub mod Renaming
-pub mod Transitive
-pub mod Together
-pub mod Plugged
-pub mod Alone
-pub mod Maps
-pub mod GraphCircuits
-pub mod GraphBuffers
-pub mod Regrouping
-pub mod Splitting
-pub mod Parts
-pub mod LoneWire
+mod Dropped
+mod Renaming
+mod Transitive
+mod Together
+mod Plugged
+mod Regrouping
+mod Splitting
+mod Parts
+mod Alone
+mod Maps
+mod GraphCircuits
+mod GraphBuffers
+mod LoneWire

@@ -9,11 +9,11 @@ use Rattle.module_sem.specs.Side.{Token, share, share_from, one}
 use Rattle.module_sem.specs.Circuit.{Circuit, kind_of}
 use Rattle.module_sem.specs.State.{State, start, initial}
 use Rattle.module_sem.specs.Firing.{Label, Label.Feed, Label.Take, Label.Fire, Acts}
-use Rattle.module_sem.specs.Run.{Step}
+use Rattle.module_sem.specs.Run.{Step, Firing, Firings}
 use Rattle.module_sem.specs.Plug.{Link, link, redirect, as_buffer}
 use Rattle.module_sem.proofs.Names.{name_cases, other_test, same_test}
 use Rattle.module_sem.proofs.Steps.{acts_at, share_none, share_from_none, share_other, share_same, append_none}
-use Rattle.module_sem.proofs.Sim.{Firing, Firings, Inner, Sim, inner_then, inner_one}
+use Rattle.module_sem.proofs.Sim.{Inner, Sim, inner_then, inner_one}
 
 -- what link asks of a circuit: an Exit and an Entry of one shape, and nothing is fed by the Exit
 pub record CanLink (l : Link) (c : Circuit) (a : Shape) : Type 0 where

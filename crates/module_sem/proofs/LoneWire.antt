@@ -1,5 +1,5 @@
 -- A wire from an Entry to an Exit: it is typed, and shows a token that is fed and taken, and none that is only taken.
-use Rattle.std.proofs.Common.{◌≡◌, ◌≢◌, ℕ, zero, suc, ◌<◌, inl, inr, refl, sym, ap, subst, ◌∙◌, true, false, bytes_eq, cond, if◌then◌else◌, length, List, [], ◌∷◌, ◌++◌, Option, Some, None, arith}
+use Rattle.std.proofs.Common.{◌≡◌, ◌≢◌, ℕ, zero, suc, ◌<◌, inl, inr, refl, sym, ap, subst, ◌∙◌, true, false, bytes_eq, cond, if◌then◌else◌, length, List, [], ◌∷◌, ◌++◌, Some, None, arith}
 use Rattle.std.specs.Ordering.{eq_by_cmp}
 use Rattle.std.specs.FinMap as map
 use Rattle.port_types.specs.Shape.{IsShape}
@@ -8,8 +8,7 @@ use Rattle.graph_core.specs.declared.kind.Kind.{Kind}
 use Rattle.graph_core.specs.declared.kind.Kind.TheVariants.{Entry, Exit}
 use Rattle.graph_core.specs.Name.{Name, Port, name_cmp, port_cmp, port_get}
 use Rattle.graph_core.specs.Kind.{Shape, ins, outs, KindOk}
-use Rattle.graph_core.specs.Node.{Body}
-use Rattle.graph_core.specs.NamedGraph.{NamedGraph, no_graph, with_node, IsTyped}
+use Rattle.graph_core.specs.NamedGraph.{no_graph, with_node, IsTyped}
 use Rattle.module_sem.specs.Side.{Token, one, at_port, share, share_from}
 use Rattle.module_sem.specs.Circuit.{Circuit, Typed, circuit_of, kind_of, kind_of_body}
 use Rattle.module_sem.specs.State.{State, start, initial}

@@ -1,5 +1,5 @@
 -- Names and ports as keys of finite maps.
-use Rattle.std.proofs.Common.{◌≡◌, ◌≢◌, ◌⊎◌, inl, inr, Bool, true, false, bytes_eq, cond, Ordering, Less, Equal, Greater, refl, sym, ap, ◌∙◌, true≢false, Option, Some, None}
+use Rattle.std.proofs.Common.{◌≡◌, ◌≢◌, ◌⊎◌, inl, inr, Bool, true, false, bytes_eq, cond, Ordering, Less, Equal, Greater, refl, sym, ap, ◌∙◌, true≢false, Some, None}
 use Rattle.std.specs.Ordering.{nat_cmp, ordering_then, eq_by_cmp, is_eq}
 use Rattle.std.specs.Cmp.{IsTotalOrder, tied_itself, Equal-is}
 use Rattle.std.specs.FinMap.{FinMap, IsAntisymmetric, nat_cmp-IsAntisymmetric, slice_cmp-IsAntisymmetric, get, insert, get-insert, retain_keys, get-retain_keys, remove, get-remove}

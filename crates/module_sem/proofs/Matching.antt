@@ -5,9 +5,9 @@ use Rattle.module_sem.specs.Side.{Token}
 use Rattle.module_sem.specs.Circuit.{Circuit, Typed}
 use Rattle.module_sem.specs.State.{State, start, IsStateOf}
 use Rattle.module_sem.specs.Firing.{Label.Feed, Label.Take, Label.Fire}
-use Rattle.module_sem.specs.Run.{Step}
+use Rattle.module_sem.specs.Run.{Step, Firing, Firings}
 use Rattle.module_sem.specs.Refines.{SamePorts, Refines}
-use Rattle.module_sem.proofs.Sim.{Firing, Firings, Inner, Sim}
+use Rattle.module_sem.proofs.Sim.{Inner, Sim}
 use Rattle.module_sem.proofs.Fitting.{step_fits, start_fits, take_fits}
 use Rattle.module_sem.proofs.Refining.{sim_refines}
 

@@ -1,19 +1,18 @@
 -- A part refined, the whole refined: also where links from outside touch the part.
-use Rattle.std.proofs.Common.{◌≡◌, ◌≢◌, ℕ, ◌+◌, ◌⊎◌, inl, inr, Bool, true, false, not, is_some, refl, sym, ap, subst, ◌∙◌, true≢false, List, [], ◌∷◌, ◌++◌, Option, Some, None, arith}
+use Rattle.std.proofs.Common.{◌≡◌, ℕ, ◌+◌, ◌⊎◌, inl, inr, Bool, true, false, not, is_some, sym, ap, subst, ◌∙◌, true≢false, List, [], ◌∷◌, ◌++◌, Some, None, arith}
 use Rattle.graph_core.specs.declared.kind.Kind.{Kind}
 use Rattle.graph_core.specs.declared.kind.Kind.TheVariants.{Entry, Exit}
 use Rattle.graph_core.specs.Name.{Name}
-use Rattle.graph_core.specs.Kind.{Shape}
 use Rattle.module_sem.specs.Each.{Each}
 use Rattle.module_sem.specs.Circuit.{Circuit, Typed}
 use Rattle.module_sem.specs.Run.{Move, Shows}
-use Rattle.module_sem.specs.Plug.{Link, link_all, plug, beside, or_else, Apart, Joins, UsesNoneTwice, CanPlug}
+use Rattle.module_sem.specs.Plug.{Link, link_all, plug, beside, or_else, Apart, Joins, CanPlug}
 use Rattle.module_sem.specs.Refines.{SamePorts, Refines}
 use Rattle.module_sem.proofs.Lists.{each_append, each_map, each_both}
 use Rattle.module_sem.proofs.Beside.{apart_none, apart_sym, kind_left}
 use Rattle.module_sem.proofs.Together.{kind_of_right, or_some}
 use Rattle.module_sem.proofs.Transitive.{IsLong, refines_of_long, long_apart}
-use Rattle.module_sem.proofs.Plugged.{CanLinkAt, can_link_all, plug_typed, IsEnd, IsFree, kind_free, was_end, some_kind}
+use Rattle.module_sem.proofs.Plugged.{can_link_all, plug_typed, IsEnd, IsFree, kind_free, was_end, some_kind}
 use Rattle.module_sem.proofs.Regrouping.{beside_assoc, Away, link_all_right, link_all_left, Distinct, link_all_swap, link_all_append}
 use Rattle.module_sem.proofs.Splitting.{passing, failing, each_passing, once_passing, once_append, AreDistinct, are_distinct, split_links, distinct_back, failing_apart}
 

@@ -8,8 +8,7 @@ use Rattle.module_sem.specs.Side.{Token}
 use Rattle.module_sem.specs.Circuit.{Circuit}
 use Rattle.module_sem.specs.State.{State, start}
 use Rattle.module_sem.specs.Firing.{Label, Label.Feed, Label.Take, Label.Fire}
-pub use Rattle.module_sem.specs.Run.{Firing, Firings}
-use Rattle.module_sem.specs.Run.{Step, Move, Run, trace, shown, Shows}
+use Rattle.module_sem.specs.Run.{Step, Move, Run, trace, shown, Shows, Firing, Firings}
 
 pub record Inner (c : Circuit) (s t : State) : Type 0 where
   pub firings : List Firing

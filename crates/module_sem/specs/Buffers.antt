@@ -9,11 +9,11 @@ use Rattle.graph_core.specs.Node.{Body}
 use Rattle.graph_core.specs.NamedGraph.{NamedGraph, without_node, with_wire}
 use Rattle.module_sem.specs.Circuit.{Circuit}
 
--- the one port of a side
+-- the first port of a side
 abbrev pub first_port : Name → Port
 first_port b = record { node = b; port = 1 }
 
--- what feeds an input that q fed, where b goes and before fed it
+-- what feeds an input once b is gone, where before fed b
 abbrev pub bypass : Name → Option Port → Option Port → Option Port
 bypass b before None = None
 bypass b before (Some q) = if bytes_eq q.node b then before else Some q
@@ -32,7 +32,7 @@ PassesOn (Buffer shape) = Unit {0}
 PassesOn (Fork shape count) = count ≡ 1
 PassesOn _ = ⊥
 
--- b passes tokens on, and is not wired to itself
+-- b can be left out: it passes tokens on, and is not wired to itself
 pub record CanDropBuffer (c : Circuit) (b : Name) : Type 0 where
   pub kind : Kind
   pub is_kind : c.kind_at b ≡ Some kind

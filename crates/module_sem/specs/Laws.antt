@@ -38,12 +38,13 @@ RefinesAlone = (new old : Circuit) → Refines new old → (tr : List Move) → 
 
 -- a plugged circuit is typed
 abbrev pub PlugIsTyped : Type 0
-PlugIsTyped = (c : Circuit) (ls : List Link) (g : Circuit) → Typed c → Typed g → CanPlug c ls g → Typed (plug c ls g)
+PlugIsTyped = (c : Circuit) (ls : List Link) (g : Circuit) → Typed c → Typed g → CanPlug c ls g →
+    Typed (plug c ls g)
 
 -- a circuit refined in a part is refined
 abbrev pub WholeRefines : Type 0
-WholeRefines = (rest new old : Circuit) (ls : List Link) → Typed rest → CanPlug rest ls new → CanPlug rest ls old →
-    Refines new old → Refines (plug rest ls new) (plug rest ls old)
+WholeRefines = (rest new old : Circuit) (ls : List Link) → Typed rest →
+    CanPlug rest ls new → CanPlug rest ls old → Refines new old → Refines (plug rest ls new) (plug rest ls old)
 
 -- without a Buffer a circuit shows nothing new
 abbrev pub DropRefines : Type 0
@@ -63,11 +64,13 @@ GraphIsTyped = (g : NamedGraph) → Typed (circuit_of g) → IsTyped g
 
 -- without a Buffer a graph shows nothing new
 abbrev pub GraphDropRefines : Type 0
-GraphDropRefines = (h g : NamedGraph) (b : Name) → IsTyped g → IsWithoutBuffer h g b → Refines (circuit_of h) (circuit_of g)
+GraphDropRefines = (h g : NamedGraph) (b : Name) → IsTyped g → IsWithoutBuffer h g b →
+    Refines (circuit_of h) (circuit_of g)
 
 -- nor with it
 abbrev pub GraphPutRefines : Type 0
-GraphPutRefines = (h g : NamedGraph) (b : Name) → IsTyped g → IsWithoutBuffer h g b → Refines (circuit_of g) (circuit_of h)
+GraphPutRefines = (h g : NamedGraph) (b : Name) → IsTyped g → IsWithoutBuffer h g b →
+    Refines (circuit_of g) (circuit_of h)
 
 -- a wire from an Entry to an Exit is typed
 abbrev pub WireIsTyped : Type 0
@@ -75,7 +78,8 @@ WireIsTyped = (shape : Shape) → IsShape shape → IsTyped (lone_wire shape)
 
 -- a token that is fed to it can be taken from it
 abbrev pub WireShowsToken : Type 0
-WireShowsToken = (shape : Shape) (v : Token) → Fits shape v → Shows (circuit_of (lone_wire shape)) (fed v ∷ took v ∷ [])
+WireShowsToken = (shape : Shape) (v : Token) → Fits shape v →
+    Shows (circuit_of (lone_wire shape)) (fed v ∷ took v ∷ [])
 
 -- and none can be taken before
 abbrev pub WireShowsNoOther : Type 0

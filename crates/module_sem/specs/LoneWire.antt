@@ -1,5 +1,5 @@
 -- The smallest graph with a wire, in which the definitions can be tried out.
-use Rattle.std.specs.Prelude.{List, [], ◌∷◌, codes}
+use Rattle.std.specs.Prelude.{codes}
 use Rattle.std.specs.FinMap as map
 use Rattle.graph_core.specs.declared.kind.Kind.{Kind}
 use Rattle.graph_core.specs.declared.kind.Kind.TheVariants.{Entry, Exit}
@@ -12,12 +12,14 @@ use Rattle.module_sem.specs.Firing.{Label.Feed, Label.Take}
 use Rattle.module_sem.specs.Run.{Move}
 use Rattle.module_sem.specs.Buffers.{first_port}
 
+-- the names of its two nodes
 abbrev pub entry_name : Name
 entry_name = codes "in"
 
 abbrev pub exit_name : Name
 exit_name = codes "out"
 
+-- a node with no kept attributes
 abbrev pub bare : Kind → Body
 bare kind = record { kind = kind; kept = map.empty }
 
@@ -27,6 +29,7 @@ lone_wire shape =
     with_wire (with_node (with_node no_graph entry_name (bare (Entry shape))) exit_name (bare (Exit shape)))
     (first_port entry_name) (first_port exit_name)
 
+-- a token is fed, and a token is taken
 abbrev pub fed : Token → Move
 fed v = record { node = entry_name; label = Feed v }
 

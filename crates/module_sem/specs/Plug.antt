@@ -7,23 +7,30 @@ use Rattle.graph_core.specs.Kind.{Shape}
 use Rattle.module_sem.specs.Each.{Each}
 use Rattle.module_sem.specs.Circuit.{Circuit}
 
+-- the first that there is
 abbrev pub or_else : {A : Type 0} → Option A → Option A → Option A
 or_else None y = y
 or_else (Some x) y = Some x
 
 -- two circuits side by side
 abbrev pub beside : Circuit → Circuit → Circuit
-beside c d = record { kind_at = λ n. or_else (c.kind_at n) (d.kind_at n); feeder = λ p. or_else (c.feeder p) (d.feeder p) }
+beside c d =
+    record {
+      kind_at = λ n. or_else (c.kind_at n) (d.kind_at n);
+      feeder = λ p. or_else (c.feeder p) (d.feeder p);
+    }
 
 -- an Exit and the Entry that it is joined to
 pub record Link : Type 0 where
   pub exit : Name
   pub entry : Name
 
+-- for an Exit, the Buffer of its shape
 abbrev pub as_buffer : Option Kind → Option Kind
 as_buffer (Some (Exit shape)) = Some (Buffer shape)
 as_buffer k = k
 
+-- what the Entry fed, the Exit's name feeds
 abbrev pub redirect : Link → Option Port → Option Port
 redirect l None = None
 redirect l (Some p) = Some (if bytes_eq p.node l.entry then record { node = l.exit; port = p.port } else p)
@@ -36,6 +43,7 @@ link l c =
       feeder = λ p. redirect l (c.feeder p);
     }
 
+-- one link after another
 abbrev pub link_all : List Link → Circuit → Circuit
 link_all [] c = c
 link_all (l ∷ ls) c = link_all ls (link l c)
@@ -54,6 +62,7 @@ pub record Joins (l : Link) (c d : Circuit) : Type 0 where
   pub exit : c.kind_at l.exit ≡ Some (Exit shape)
   pub entry : d.kind_at l.entry ≡ Some (Entry shape)
 
+-- no Exit and no Entry is an end of two links
 abbrev pub UsesNoneTwice : List Link → Type 0
 UsesNoneTwice [] = Unit {0}
 UsesNoneTwice (l ∷ ls) = Each (λ m. (m.exit ≢ l.exit) × (m.entry ≢ l.entry)) ls × UsesNoneTwice ls

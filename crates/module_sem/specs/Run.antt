@@ -1,5 +1,5 @@
 -- Steps of a circuit, runs, and what is seen of them.
-use Rattle.std.specs.Prelude.{◌≡◌, ◌≢◌, ℕ, List, [], ◌∷◌, ◌++◌, Option, Some}
+use Rattle.std.specs.Prelude.{◌≡◌, ◌≢◌, ℕ, List, [], ◌∷◌, ◌++◌, Some}
 use Rattle.graph_core.specs.declared.kind.Kind.{Kind}
 use Rattle.graph_core.specs.Name.{Name, Port}
 use Rattle.module_sem.specs.Side.{Token, share, share_from}
@@ -7,7 +7,7 @@ use Rattle.module_sem.specs.Circuit.{Circuit}
 use Rattle.module_sem.specs.State.{State, start}
 use Rattle.module_sem.specs.Firing.{Label, Label.Feed, Label.Take, Label.Fire, Acts}
 
--- node n of c goes from state s to state t: what it takes stands at the heads of its wires, what it gives comes behind what is left
+-- node n takes c from state s to state t: what it takes stands at the front of its wires, what it gives comes behind what is left
 pub record Step (c : Circuit) (s : State) (n : Name) (l : Label) (t : State) : Type 0 where
   pub kind : Kind
   pub is_kind : c.kind_at n ≡ Some kind
@@ -29,6 +29,7 @@ abbrev pub Run : Circuit → State → List Move → State → Type 0
 Run c s [] t = s ≡ t
 Run c s (m ∷ ms) t = (mid : State) × Step c s m.node m.label mid × Run c mid ms t
 
+-- a move before others, where it is seen
 abbrev pub shown : Name → Label → List Move → List Move
 shown n (Feed v) ms = record { node = n; label = Feed v } ∷ ms
 shown n (Take v) ms = record { node = n; label = Take v } ∷ ms

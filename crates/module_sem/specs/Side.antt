@@ -6,6 +6,7 @@ use Rattle.graph_core.specs.Name.{Name, Port}
 abbrev pub Token : Type 0
 Token = List ℕ
 
+-- a single token
 abbrev pub one : Token → List Token
 one v = v ∷ []
 
@@ -20,6 +21,7 @@ at_port (x ∷ xs) (suc (suc i)) = at_port xs (suc i)
 abbrev pub share : Name → List (List Token) → Port → List Token
 share n side p = if bytes_eq p.node n then at_port side p.port else []
 
+-- the same at a port that may be none
 abbrev pub share_from : Name → List (List Token) → Option Port → List Token
 share_from n side None = []
 share_from n side (Some p) = share n side p

@@ -27,6 +27,7 @@ initial (Some (Exit shape)) = []
 initial (Some (Buffer shape)) = []
 initial (Some (Fork shape count)) = []
 
+-- each wire as its source leaves it, and no slot taken
 abbrev pub start : Circuit → State
 start c = record { wires = λ p. initial (kind_of c (c.feeder p)); slots = λ n. [] }
 
@@ -39,5 +40,6 @@ SlotFits (Fork shape count) x = ⊥
 
 -- the tokens of each wire fit its shape, and what stands in the slots fits too
 pub record IsStateOf (c : Circuit) (s : State) : Type 0 where
-  pub wires : (p : Port) (k : Kind) (a : Shape) → c.kind_at p.node ≡ Some k → port_get (ins k) p.port ≡ Some a → Each (Fits a) (s.wires p)
+  pub wires : (p : Port) (k : Kind) (a : Shape) → c.kind_at p.node ≡ Some k →
+      port_get (ins k) p.port ≡ Some a → Each (Fits a) (s.wires p)
   pub slots : (n : Name) (k : Kind) → c.kind_at n ≡ Some k → Each (SlotFits k) (s.slots n)
