@@ -1,0 +1,24 @@
+pub mod Names
+pub mod Lists
+pub mod Steps
+pub mod Sim
+pub mod Linking
+mod Rows
+pub mod Fitting
+pub mod Beside
+pub mod Refining
+pub mod Matching
+pub mod Dropping
+mod Dropped
+mod Renaming
+mod Transitive
+mod Together
+mod Plugged
+mod Regrouping
+mod Splitting
+mod Parts
+mod Alone
+mod Maps
+mod GraphCircuits
+mod GraphBuffers
+mod LoneWire

@@ -1,0 +1,8 @@
+use Rattle.module_sem.proofs.Dropped.{dropped, put}
+use Rattle.module_sem.proofs.buffer_shows_nothing.Goals as goal
+
+pub returns-clause-dropped : goal.returns-clause-dropped
+returns-clause-dropped c = dropped
+
+pub returns-clause-put : goal.returns-clause-put
+returns-clause-put c = put

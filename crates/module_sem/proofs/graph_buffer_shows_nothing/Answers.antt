@@ -1,0 +1,8 @@
+use Rattle.module_sem.proofs.GraphBuffers.{graph_drop_refines, graph_put_refines}
+use Rattle.module_sem.proofs.graph_buffer_shows_nothing.Goals as goal
+
+pub returns-clause-dropped : goal.returns-clause-dropped
+returns-clause-dropped c = graph_drop_refines
+
+pub returns-clause-put : goal.returns-clause-put
+returns-clause-put c = graph_put_refines

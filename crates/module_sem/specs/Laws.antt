@@ -1,0 +1,86 @@
+-- The laws of circuits. Each is proved of a function of this crate.
+use Rattle.std.specs.Prelude.{List, [], ◌∷◌}
+use Rattle.port_types.specs.Shape.{IsShape}
+use Rattle.port_types.specs.Token.{Fits}
+use Rattle.graph_core.specs.Name.{Name}
+use Rattle.graph_core.specs.Kind.{Shape}
+use Rattle.graph_core.specs.NamedGraph.{NamedGraph, IsTyped}
+use Rattle.module_sem.specs.Side.{Token}
+use Rattle.module_sem.specs.Circuit.{Circuit, Typed, circuit_of}
+use Rattle.module_sem.specs.State.{State, start, IsStateOf}
+use Rattle.module_sem.specs.Firing.{Label}
+use Rattle.module_sem.specs.Run.{Step, Move, Shows}
+use Rattle.module_sem.specs.Plug.{Link, plug, CanPlug}
+use Rattle.module_sem.specs.Refines.{Refines}
+use Rattle.module_sem.specs.Buffers.{drop_node, CanDropBuffer, IsWithoutBuffer}
+use Rattle.module_sem.specs.LoneWire.{lone_wire, fed, took}
+
+-- what a typed circuit holds at the start fits
+abbrev pub StartIsState : Type 0
+StartIsState = (c : Circuit) → Typed c → IsStateOf c (start c)
+
+-- and it fits after each step
+abbrev pub StepKeepsState : Type 0
+StepKeepsState = (c : Circuit) → Typed c →
+    (s : State) (n : Name) (l : Label) (t : State) → Step c s n l t → IsStateOf c s → IsStateOf c t
+
+-- a typed circuit refines itself
+abbrev pub RefinesItself : Type 0
+RefinesItself = (c : Circuit) → Typed c → Refines c c
+
+-- refinement goes on from step to step, whatever the names in between
+abbrev pub RefinesInSteps : Type 0
+RefinesInSteps = (new between old : Circuit) → Refines new between → Refines between old → Refines new old
+
+-- what refines another shows, alone, nothing that the other does not
+abbrev pub RefinesAlone : Type 0
+RefinesAlone = (new old : Circuit) → Refines new old → (tr : List Move) → Shows new tr → Shows old tr
+
+-- a plugged circuit is typed
+abbrev pub PlugIsTyped : Type 0
+PlugIsTyped = (c : Circuit) (ls : List Link) (g : Circuit) → Typed c → Typed g → CanPlug c ls g →
+    Typed (plug c ls g)
+
+-- a circuit refined in a part is refined
+abbrev pub WholeRefines : Type 0
+WholeRefines = (rest new old : Circuit) (ls : List Link) → Typed rest →
+    CanPlug rest ls new → CanPlug rest ls old → Refines new old → Refines (plug rest ls new) (plug rest ls old)
+
+-- without a Buffer a circuit shows nothing new
+abbrev pub DropRefines : Type 0
+DropRefines = (c : Circuit) (b : Name) → Typed c → CanDropBuffer c b → Refines (drop_node b c) c
+
+-- nor with it
+abbrev pub PutRefines : Type 0
+PutRefines = (c : Circuit) (b : Name) → Typed c → CanDropBuffer c b → Refines c (drop_node b c)
+
+-- a typed graph stands for a typed circuit
+abbrev pub CircuitIsTyped : Type 0
+CircuitIsTyped = (g : NamedGraph) → IsTyped g → Typed (circuit_of g)
+
+-- and only a typed one does
+abbrev pub GraphIsTyped : Type 0
+GraphIsTyped = (g : NamedGraph) → Typed (circuit_of g) → IsTyped g
+
+-- without a Buffer a graph shows nothing new
+abbrev pub GraphDropRefines : Type 0
+GraphDropRefines = (h g : NamedGraph) (b : Name) → IsTyped g → IsWithoutBuffer h g b →
+    Refines (circuit_of h) (circuit_of g)
+
+-- nor with it
+abbrev pub GraphPutRefines : Type 0
+GraphPutRefines = (h g : NamedGraph) (b : Name) → IsTyped g → IsWithoutBuffer h g b →
+    Refines (circuit_of g) (circuit_of h)
+
+-- a wire from an Entry to an Exit is typed
+abbrev pub WireIsTyped : Type 0
+WireIsTyped = (shape : Shape) → IsShape shape → IsTyped (lone_wire shape)
+
+-- a token that is fed to it can be taken from it
+abbrev pub WireShowsToken : Type 0
+WireShowsToken = (shape : Shape) (v : Token) → Fits shape v →
+    Shows (circuit_of (lone_wire shape)) (fed v ∷ took v ∷ [])
+
+-- and none can be taken before
+abbrev pub WireShowsNoOther : Type 0
+WireShowsNoOther = (shape : Shape) (v : Token) → ¬ (Shows (circuit_of (lone_wire shape)) (took v ∷ []))

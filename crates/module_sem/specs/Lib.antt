@@ -1,0 +1,11 @@
+pub mod Each
+pub mod Side
+pub mod Circuit
+pub mod State
+pub mod Firing
+pub mod Run
+pub mod Plug
+pub mod Refines
+pub mod Buffers
+pub mod LoneWire
+pub mod Laws

@@ -1,0 +1,45 @@
+-- States of a circuit: the tokens on its wires, and the slots of its nodes.
+use Rattle.std.specs.Prelude.{◌≡◌, ℕ, List, [], Option, Some, None}
+use Rattle.port_types.specs.Token.{Fits}
+use Rattle.graph_core.specs.declared.kind.Kind.{Kind}
+use Rattle.graph_core.specs.declared.kind.Kind.TheVariants.{Entry, Exit, Buffer, Fork}
+use Rattle.graph_core.specs.Name.{Name, Port, port_get}
+use Rattle.graph_core.specs.Kind.{Shape, ins}
+use Rattle.module_sem.specs.Each.{Each}
+use Rattle.module_sem.specs.Side.{Token}
+use Rattle.module_sem.specs.Circuit.{Circuit, kind_of}
+
+-- a tag that is in use, with its result or with none yet
+pub record Slot : Type 0 where
+  pub tag : ℕ
+  pub result : Option Token
+
+-- the tokens of each wire, by the input that it enters, and the slots of each node, oldest first
+pub record State : Type 0 where
+  pub wires : Port → List Token
+  pub slots : Name → List Slot
+
+-- what a wire holds at the start, by the kind that feeds it
+abbrev pub initial : Option Kind → List Token
+initial None = []
+initial (Some (Entry shape)) = []
+initial (Some (Exit shape)) = []
+initial (Some (Buffer shape)) = []
+initial (Some (Fork shape count)) = []
+
+-- each wire as its source leaves it, and no slot taken
+abbrev pub start : Circuit → State
+start c = record { wires = λ p. initial (kind_of c (c.feeder p)); slots = λ n. [] }
+
+-- what may stand in a slot of a node of this kind
+abbrev pub SlotFits : Kind → Slot → Type 0
+SlotFits (Entry shape) x = ⊥
+SlotFits (Exit shape) x = ⊥
+SlotFits (Buffer shape) x = ⊥
+SlotFits (Fork shape count) x = ⊥
+
+-- the tokens of each wire fit its shape, and what stands in the slots fits too
+pub record IsStateOf (c : Circuit) (s : State) : Type 0 where
+  pub wires : (p : Port) (k : Kind) (a : Shape) → c.kind_at p.node ≡ Some k →
+      port_get (ins k) p.port ≡ Some a → Each (Fits a) (s.wires p)
+  pub slots : (n : Name) (k : Kind) → c.kind_at n ≡ Some k → Each (SlotFits k) (s.slots n)
