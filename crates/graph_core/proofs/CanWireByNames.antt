@@ -1,7 +1,7 @@
 -- A wire may be added by names exactly where nothing keeps it out.
-use Rattle.std.proofs.Common.{◌≡◌, ◌≢◌, inl, inr, Bool, true, false, ◌||◌, Option, Some, None, is_some, bytes_eq, if◌then◌else◌, refl, sym, ap, ◌∙◌, true≢false}
+use Rattle.std.proofs.Common.{◌≡◌, inl, inr, false, Option, Some, None, is_some, if◌then◌else◌, refl, sym, ap, ◌∙◌, true≢false}
 use Rattle.std.specs.FinMap as map
-use Rattle.std.proofs.lemmas.Bool.{or_parts, or_from, cases_Bool, false_from_ne_true}
+use Rattle.std.proofs.lemmas.Bool.{or_parts, or_from, false_from_ne_true}
 use Rattle.std.proofs.lemmas.Option.{same_Some}
 use Rattle.std.proofs.lemmas.Slice.Eq.{bytes_eq-Decides}
 use Rattle.port_types.specs.declared.side.Side.{Side}
@@ -9,15 +9,15 @@ use Rattle.port_types.specs.declared.side.Side.TheVariants.{Ins, Outs}
 use Rattle.graph_core.specs.declared.node.Node.{Node}
 use Rattle.graph_core.specs.declared.place.PortAt.{PortAt}
 use Rattle.graph_core.specs.declared.graph.AddWire.TheVariants.{ShapeDiffers}
-use Rattle.graph_core.specs.Name.{Port, port_get}
-use Rattle.graph_core.specs.Kind.{Shape, ins, outs, ports}
+use Rattle.graph_core.specs.Name.{port_get}
+use Rattle.graph_core.specs.Kind.{Shape, ports}
 use Rattle.graph_core.specs.Node.{Body, body_of}
-use Rattle.graph_core.specs.NamedGraph.{IsWire, CanWire}
-use Rattle.graph_core.specs.GraphValue.{GraphValue, node_at, shape_of, shape_at, feeds, by_names, port_named, name_of, IsGraph}
+use Rattle.graph_core.specs.NamedGraph.{CanWire}
+use Rattle.graph_core.specs.GraphValue.{GraphValue, node_at, shape_of, shape_at, feeds, by_names, port_named, IsGraph}
 use Rattle.graph_core.specs.Wiring.{fault_between, is_taken, wire_fault}
 use Rattle.graph_core.proofs.Options.{none_some, answer_cases}
 use Rattle.graph_core.proofs.Feeds.{fed_where_feeds, feeds_where_fed}
-use Rattle.graph_core.proofs.ByNames.{port_behind, same_port, node_found, wire_ends, wire_found, wire_behind, wire_none}
+use Rattle.graph_core.proofs.ByNames.{port_behind, same_port, wire_ends, wire_found, wire_behind, wire_none}
 use Rattle.graph_core.proofs.ByNamesAfter.{fits_between}
 use Rattle.graph_core.proofs.TypedByNames.{node_of_port}
 
