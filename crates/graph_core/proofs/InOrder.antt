@@ -15,7 +15,7 @@ use Rattle.graph_core.specs.Node.{Body, body_of}
 use Rattle.graph_core.specs.GraphValue.{flat, named, named_nodes}
 use Rattle.graph_core.specs.Inside.{IsNamedAt, AreNamedApart}
 use Rattle.graph_core.proofs.Orders.{name_total, name_same}
-use Rattle.graph_core.proofs.SlotLists.{not_None}
+use Rattle.graph_core.proofs.Known.{not_None}
 
 -- the order of names behind references
 abbrev pub ref_cmp : Bor (List ℕ) → Bor (List ℕ) → Ordering

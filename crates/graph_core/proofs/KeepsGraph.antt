@@ -1,5 +1,5 @@
 -- What the changes of a graph keep: that it is one.
-use Rattle.std.proofs.Common.{◌≡◌, ◌≢◌, ◌⊎◌, inl, inr, Bool, true, false, cond, not, ◌||◌, [], Option, Some, None, refl, sym, ap, subst, ◌∙◌, true≢false}
+use Rattle.std.proofs.Common.{◌≡◌, ◌∷◌, ◌≢◌, ◌⊎◌, inl, inr, Bool, true, false, cond, not, ◌||◌, [], Option, Some, None, refl, sym, ap, subst, ◌∙◌, true≢false}
 use Rattle.std.proofs.lemmas.Bool.{eq-eqb}
 use Rattle.std.specs.FinMap as map
 use Rattle.std.specs.Ordering.{eq_by_cmp}
@@ -15,7 +15,9 @@ use Rattle.graph_core.specs.Node.{NodeOk}
 use Rattle.graph_core.specs.GraphValue.{GraphValue, IsGraph, HasName, node_at, shape_of, shape_at, is_at, with_slot, with_feeder, without_slot}
 use Rattle.graph_core.specs.Wiring.{wire_fault}
 use Rattle.graph_core.proofs.Orders.{place_total, place_same}
-use Rattle.graph_core.proofs.SlotLists.{same_Some, not_None, pushed_old, pushed_either, emptied_other, emptied_old}
+use Rattle.graph_core.proofs.Known.{same_Some, not_None}
+use Rattle.graph_core.proofs.SlotLists.{pushed_either, emptied_old}
+use Rattle.graph_core.proofs.NamedNodes.{slot_kept, slot_other}
 use Rattle.graph_core.proofs.WireLists.{same_place}
 use Rattle.graph_core.proofs.Faults.{Fitting, fitting}
 
@@ -51,7 +53,7 @@ IsGraph-with_slot g ok node node_ok fresh =
     }
   where
     stays : (side : Side) (p : PortAt) (shape : Shape) → shape_at g side p ≡ Some shape → shape_at (with_slot g node) side p ≡ Some shape
-    stays side p shape = shape_kept g (with_slot g node) side p shape (λ found live. pushed_old g.slots node found p.node.index live)
+    stays side p shape = shape_kept g (with_slot g node) side p shape (λ found live. slot_kept g.slots (Some node ∷ []) p.node.index found live)
 
     names : (i j : NodeId) (name : Name) → HasName (with_slot g node) i name → HasName (with_slot g node) j name → i ≡ j
     names i j name (a, live_a, name_a) (b, live_b, name_b) =
@@ -155,4 +157,4 @@ IsGraph-without_slot g ok id =
     }
   where
     kept : (side : Side) (p : PortAt) (shape : Shape) → p.node.index ≢ id.index → shape_at g side p ≡ Some shape → shape_at (without_slot g id) side p ≡ Some shape
-    kept side p shape apart = shape_kept g (without_slot g id) side p shape (λ node live. emptied_other g.slots id.index p.node.index apart ∙ live)
+    kept side p shape apart = shape_kept g (without_slot g id) side p shape (λ node live. slot_other g.slots id.index p.node.index apart ∙ live)

@@ -4,6 +4,7 @@ mod Maps
 mod NamedNodes
 mod Feeds
 pub mod Orders
+pub mod Known
 pub mod PortLists
 pub mod SlotLists
 pub mod WireLists

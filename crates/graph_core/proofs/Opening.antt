@@ -9,7 +9,8 @@ use Rattle.graph_core.specs.Name.{port_get}
 use Rattle.graph_core.specs.Kind.{ins, outs, ports}
 use Rattle.graph_core.specs.GraphValue.{GraphValue, node_at, shape_of, shape_at}
 use Rattle.graph_core.specs.Wiring.{IsFree, IsOpen, ComesBefore}
-use Rattle.graph_core.proofs.SlotLists.{some_by, slot_within}
+use Rattle.graph_core.proofs.Options.{some_there}
+use Rattle.graph_core.proofs.SlotLists.{slot_within}
 use Rattle.graph_core.proofs.Finding.{live_where_shaped}
 use Rattle.graph_core.specs.OpenPorts.{port_at, AreWired, IsFirstFree, IsClosed, IsFirstOpenAt}
 
@@ -58,8 +59,8 @@ module _ (g : GraphValue) (id : NodeId) (node : Node) (live : node_at g id ≡ S
 -- an open port is one of a slot
 pub open_slot : (g : GraphValue) (p : PortOpen) → IsOpen g p → p.node.index < length g.slots
 open_slot g p is_open =
-    let shape = some_by (shape_at g p.side (port_at p.node p.port)) is_open.there in
-    let node = some_by (node_at g p.node) (live_where_shaped g p.side (port_at p.node p.port) shape.0 shape.1) in
+    let shape = some_there (shape_at g p.side (port_at p.node p.port)) is_open.there in
+    let node = some_there (node_at g p.node) (live_where_shaped g p.side (port_at p.node p.port) shape.0 shape.1) in
     slot_within g.slots p.node.index node.0 node.1
 
 pub not_both : {A E : Type 0} (r : Result A E) → IsErr r → IsOk r → ⊥

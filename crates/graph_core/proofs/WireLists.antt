@@ -14,7 +14,7 @@ use Rattle.graph_core.specs.Place.{place_cmp}
 use Rattle.graph_core.specs.GraphValue.{is_at}
 use Rattle.graph_core.specs.Inside.{feeder_list, stands_at, AreApart}
 use Rattle.graph_core.proofs.Orders.{place_total, place_same}
-use Rattle.graph_core.proofs.SlotLists.{same_Some, not_None}
+use Rattle.graph_core.proofs.Known.{not_None}
 
 -- two places are one, or they are not, as the test says
 pub here : (p : PortAt) → eq_by_cmp place_cmp p p ≡ true
@@ -41,14 +41,6 @@ find_first target wire wires e = ap (λ b. cond b (Some wire.source) (map.find p
 
 pub find_later : (target : PortAt) (wire : Wire) (wires : List Wire) → target ≢ wire.target → map.find place_cmp target (feeder_list (wire ∷ wires)) ≡ map.find place_cmp target (feeder_list wires)
 find_later target wire wires other = ap (λ b. cond b (Some wire.source) (map.find place_cmp target (feeder_list wires))) (other_place target wire.target other)
-
--- a wire of another output is not the one looked for
-pub not_first : (source target : PortAt) (wire : Wire) (wires : List Wire) → wire.source ≢ source → map.find place_cmp target (feeder_list (wire ∷ wires)) ≡ Some source → map.find place_cmp target (feeder_list wires) ≡ Some source
-not_first source target wire wires other e =
-    elim (eq_by_cmp place_cmp target wire.target) as (λ b. cond b (Some wire.source) (map.find place_cmp target (feeder_list wires)) ≡ Some source → map.find place_cmp target (feeder_list wires) ≡ Some source) [
-      | true ↦ λ h. absurd (other (same_Some h))
-      | false ↦ λ h. h
-    ] e
 
 -- where no input stands twice, each wire is found
 pub find_each : (wires : List Wire) (i : ℕ) (d : Wire) → AreApart (feeder_list wires) → i < length wires → map.find place_cmp (get_or wires i d).target (feeder_list wires) ≡ Some (get_or wires i d).source

@@ -3,7 +3,7 @@ use Rattle.std.specs.FinMap as map
 use Rattle.graph_core.specs.declared.place.NodeId.{NodeId}
 use Rattle.graph_core.specs.GraphValue.{IsGraph, HasName, by_names, with_slot}
 use Rattle.graph_core.specs.Inside.{value_of}
-use Rattle.graph_core.proofs.SlotLists.{at_none, none_by}
+use Rattle.graph_core.proofs.Known.{at_none, none_by}
 use Rattle.graph_core.proofs.KeepsGraph.{IsGraph-with_slot}
 use Rattle.graph_core.proofs.ByNamesAfter.{by_names-with_slot}
 use Rattle.graph_core.proofs.graph.Graph.add_node.Goals as goal

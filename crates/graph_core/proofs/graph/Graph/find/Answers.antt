@@ -1,7 +1,7 @@
 use Rattle.std.proofs.Common.{◌≡◌, ◌∙◌, rules, subst, sym, ap, IfSome, is_some}
 use Rattle.graph_core.specs.GraphValue.{IsGraph, HasName}
 use Rattle.graph_core.specs.Inside.{IsNamedAt}
-use Rattle.graph_core.proofs.SlotLists.{if_none, at_none, none_by}
+use Rattle.graph_core.proofs.Known.{if_none, at_none, none_by}
 use Rattle.graph_core.proofs.Finding.{name_is_key}
 use Rattle.graph_core.proofs.graph.Graph.find.Goals as goal
 

@@ -1,7 +1,7 @@
 use Rattle.std.proofs.Common.{◌≡◌, ◌∙◌, sym, ap, subst, slice_get, slice_set, None}
 use Rattle.graph_core.specs.GraphValue.{IsGraph, flat, node_at, by_names, without_slot}
 use Rattle.graph_core.specs.Inside.{value_of, feeder_list, AreApart}
-use Rattle.graph_core.proofs.SlotLists.{if_some, if_none}
+use Rattle.graph_core.proofs.Known.{if_some, if_none}
 use Rattle.graph_core.proofs.WireLists.{AreApart-filter}
 use Rattle.graph_core.proofs.KeepsGraph.{IsGraph-without_slot}
 use Rattle.graph_core.proofs.Changes.{value_of-away, without_slot-dead}

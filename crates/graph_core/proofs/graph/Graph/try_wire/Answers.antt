@@ -1,5 +1,6 @@
 use Rattle.std.proofs.Common.{◌∙◌, rules, sym, ap, is_some}
-use Rattle.graph_core.proofs.SlotLists.{at_some, at_none, none_by, some_by}
+use Rattle.graph_core.proofs.Known.{at_some, at_none, none_by}
+use Rattle.graph_core.proofs.Options.{some_there}
 use Rattle.graph_core.proofs.Faults.{Shaped, fault_into, fault_from, fault_none, fault_shape}
 use Rattle.graph_core.proofs.graph.Graph.try_wire.Goals as goal
 use Rattle.graph_core.proofs.graph.Graph.try_wire.Goals.{In_ok-entering, then-is_some-via-then-is_some, then-is_some-via-else-is_some+then-is_some-2}
@@ -14,7 +15,7 @@ returns-then-is_some c =
       | then-is_some-via-then-is_some w ↦
           fault_into c.args.self.now c.args.source c.args.target _ _ ports (sym (ap is_some c.wire_into.ensures.feeder) ∙ sym c.is_some.ensures ∙ w.if-is_some.true)
       | then-is_some-via-else-is_some+then-is_some-2 w ↦
-          let fed = some_by w.wire_from.result (sym w.is_some-else-is_some.ensures ∙ w.if-is_some-2.true) in
+          let fed = some_there w.wire_from.result (sym w.is_some-else-is_some.ensures ∙ w.if-is_some-2.true) in
           fault_from c.args.self.now c.args.source c.args.target _ _ ports fed.0 (at_some w.wire_from.result _ fed.0 fed.1 w.wire_from.ensures.fed)
     ]
 

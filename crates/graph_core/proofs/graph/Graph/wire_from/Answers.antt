@@ -5,7 +5,7 @@ use Rattle.graph_core.specs.GraphValue.{IsGraph, node_at, port_named}
 use Rattle.graph_core.specs.Place.{place_cmp}
 use Rattle.graph_core.specs.Inside.{feeder_list, AreApart}
 use Rattle.port_types.specs.declared.side.Side.TheVariants.{Ins}
-use Rattle.graph_core.proofs.SlotLists.{if_some, if_none, at_some, at_none}
+use Rattle.graph_core.proofs.Known.{if_some, if_none, at_some, at_none}
 use Rattle.graph_core.proofs.Options.{some_there}
 use Rattle.graph_core.proofs.ByNames.{wire_found, wire_behind, wire_ends, same_port}
 use Rattle.graph_core.proofs.Finding.{lookup_is, live_where_shaped}

@@ -4,7 +4,7 @@ use Rattle.graph_core.specs.GraphValue.{IsGraph}
 use Rattle.graph_core.specs.Place.{place_cmp}
 use Rattle.graph_core.specs.Inside.{feeder_list}
 use Rattle.port_types.specs.declared.side.Side.TheVariants.{Outs}
-use Rattle.graph_core.proofs.SlotLists.{if_some}
+use Rattle.graph_core.proofs.Known.{if_some}
 use Rattle.graph_core.proofs.Finding.{lookup_is, live_where_shaped, feeder_named}
 use Rattle.graph_core.proofs.graph.Graph.wire_into.Goals as goal
 
