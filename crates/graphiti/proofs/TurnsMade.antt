@@ -18,8 +18,7 @@ module _ (g : NamedGraph) (typed : IsTyped g) (name : Name) where
       elim (name_cases source.node name) [
         | inl same ↦ (g, inl (inr (fed ∙ ap Some (buffer_output g typed name buffer (first_port name) source fed same)), refl))
         | inr other ↦
-            let (target, feeds) = buffer_feeds g typed name buffer in
-            (
+            let (target, feeds) = buffer_feeds g typed name buffer in (
               with_wire (without_node g name) source target,
               inr (record { source = source; target = target; buffer = buffer; fed = fed; feeds = feeds; other = other; after = refl }),
             )
