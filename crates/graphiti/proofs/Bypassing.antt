@@ -19,7 +19,7 @@ use Rattle.graphiti.specs.Stripped.{IsBufferKind, IsBuffer, first_port}
 use Rattle.graphiti.specs.Strips.{Drops, StaysAtTurn}
 use Rattle.graphiti.specs.Bypass.{IsFedBuffer}
 use Rattle.graphiti.proofs.Lookups.{port_total, port_same, get_inserted, get_retained}
-use Rattle.graphiti.proofs.Dropping.{Bypasses, buffer_at, buffer_output, drops_bypasses, typed_after}
+use Rattle.graphiti.proofs.Dropping.{Bypasses, buffer_feeds, buffer_output, drops_bypasses, typed_after}
 use Rattle.graphiti.proofs.NodesById.{same_id, node_without, names_apart, live_by_name, feeds_by_id}
 
 -- By names
@@ -77,11 +77,6 @@ module _ (g : NamedGraph) (typed : IsTyped g) (name : Name) (source target : Por
         target_free = feeder_left target ∙ near_source (is_of name (Some target)) (map.get g.feeders target) (is_of name (map.get g.feeders target)) (ap (is_of name) feeds ∙ itself);
         source_free = source_free;
       }
-
-buffer_feeds : (g : NamedGraph) → IsTyped g → (name : Name) → IsBuffer g name → (target : Port) × (map.get g.feeders target ≡ Some (first_port name))
-buffer_feeds g typed name buffer =
-    let b = buffer_at g name buffer in
-    typed.outputs (first_port name) b.body b.shape b.is (ap (λ kind. port_get (outs kind) 1) b.kind)
 
 -- By ids
 

@@ -11,7 +11,7 @@ use Rattle.graph_core.specs.Kind.{Shape, ins, outs}
 use Rattle.graph_core.specs.Node.{Body}
 use Rattle.graph_core.specs.NamedGraph.{NamedGraph, IsTyped, IsWire, is_of, without_node}
 use Rattle.graphiti.specs.Stripped.{IsBufferKind, IsBuffer, first_port}
-use Rattle.graphiti.specs.Strips.{Drops}
+use Rattle.graphiti.specs.Strips.{Drops, Turn}
 use Rattle.graphiti.proofs.Lookups.{name_total, name_same, port_total, port_same, name_cases, port_cases, get_inserted, get_not_inserted, get_removed, get_not_removed, get_retained}
 
 -- a Buffer with its node
@@ -73,6 +73,16 @@ module _ (g : NamedGraph) (typed : IsTyped g) where
       let w = typed.wires p q wired in
       let same : w.from ≡ b.body = same_Some w.from b.body (sym w.is_from ∙ ap (map.get g.nodes) at ∙ b.is) in
       at_first q name at (single_port b.shape w.shape q.port (ap (λ kind. port_get (outs kind) q.port) (sym b.kind) ∙ ap (λ body. port_get (outs body.kind) q.port) (sym same) ∙ w.leaves))
+
+  pub buffer_feeds : (name : Name) → IsBuffer g name → (target : Port) × (map.get g.feeders target ≡ Some (first_port name))
+  buffer_feeds name buffer =
+      let b = buffer_at g name buffer in
+      typed.outputs (first_port name) b.body b.shape b.is (ap (λ kind. port_get (outs kind) 1) b.kind)
+
+  pub buffer_fed : (name : Name) → IsBuffer g name → (source : Port) × (map.get g.feeders (first_port name) ≡ Some source)
+  buffer_fed name buffer =
+      let b = buffer_at g name buffer in
+      typed.inputs (first_port name) b.body b.shape b.is (ap (λ kind. port_get (ins kind) 1) b.kind)
 
 -- h is g without the Buffer b: what fed it feeds what it fed
 pub record Bypasses (g : NamedGraph) (b : Name) (h : NamedGraph) : Type 0 where
@@ -270,3 +280,8 @@ module _ (g : NamedGraph) (typed : IsTyped g) (b : Name) (h : NamedGraph) (past 
         outputs = outputs_after;
         once = once_after;
       }
+
+-- the turn of one node keeps a graph typed
+pub turn_typed : (g h : NamedGraph) (name : Name) → IsTyped g → Turn g name h → IsTyped h
+turn_typed g h name typed (inl stays) = subst IsTyped stays.1 typed
+turn_typed g h name typed (inr drop) = typed_after g typed name h (drops_bypasses g typed name h drop)

@@ -4,7 +4,9 @@ pub mod Entries
 pub mod Dropping
 pub mod Meeting
 pub mod Turning
+pub mod TurnsMade
 pub mod Stripping
+pub mod Refining
 pub mod LineParts
 pub mod SmallLines
 pub mod SmallEntries

@@ -1,9 +1,13 @@
 -- Dropping the Buffers in the order of their names strips the graph.
+use Rattle.std.proofs.Common.{subst}
 use Rattle.std.specs.FinMap as map
-use Rattle.graphiti.specs.Stripped.{IsOneStripped}
+use Rattle.graph_core.specs.NamedGraph.{IsTyped}
+use Rattle.graphiti.specs.Stripped.{HasStripped, IsOneStripped}
+use Rattle.graphiti.specs.Behaviour.{StrippedTyped}
 use Rattle.graphiti.specs.Strips.{TurnsStrip}
 use Rattle.graphiti.proofs.Lookups.{name_total, name_same, port_total, port_same, same_by}
 use Rattle.graphiti.proofs.Turning.{keys_rise, await_keys, turns_from}
+use Rattle.graphiti.proofs.TurnsMade.{turns_end}
 
 pub turns_strip : TurnsStrip
 turns_strip g h typed turns = turns_from (map.keys g.nodes) g h typed (keys_rise g.nodes) (await_keys g) turns
@@ -13,3 +17,14 @@ one_stripped g h k sh sk =
     let nodes = same_by name_total name_same h.nodes k.nodes (λ n x e. (sk.nodes n x).1 ((sh.nodes n x).0 e)) (λ n x e. (sh.nodes n x).1 ((sk.nodes n x).0 e)) in
     let feeders = same_by port_total port_same h.feeders k.feeders (λ p q e. (sk.feeders p q).1 ((sh.feeders p q).0 e)) (λ p q e. (sh.feeders p q).1 ((sk.feeders p q).0 e)) in
     λ i. record { nodes = nodes i; feeders = feeders i }
+
+pub has_stripped : HasStripped
+has_stripped g typed =
+    let (h, turns) = turns_end g typed in
+    (h, (turns_strip g h typed turns).0)
+
+pub stripped_typed : StrippedTyped
+stripped_typed g h typed is =
+    let (k, turns) = turns_end g typed in
+    let after = turns_strip g k typed turns in
+    subst IsTyped (one_stripped g k h after.0 is) after.1

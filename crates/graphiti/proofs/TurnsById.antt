@@ -11,7 +11,7 @@ use Rattle.graph_core.specs.NamedGraph.{NamedGraph, IsTyped}
 use Rattle.graph_core.specs.GraphValue.{GraphValue, HasName, node_at, named, by_names}
 use Rattle.graphiti.specs.Strips.{Turn, Turns}
 use Rattle.graphiti.specs.PrintedGraph.{AreInOrder}
-use Rattle.graphiti.proofs.Dropping.{drops_bypasses, typed_after}
+use Rattle.graphiti.proofs.Dropping.{turn_typed}
 use Rattle.graphiti.proofs.Meeting.{not_less_itself}
 use Rattle.graphiti.proofs.Turning.{IsAmong, Rise, keys_rise}
 
@@ -53,10 +53,6 @@ underway_first g ids typed order =
     }
 
 -- A turn
-
-turn_typed : (g h : NamedGraph) (name : Name) → IsTyped g → Turn g name h → IsTyped h
-turn_typed g h name typed (inl stays) = subst IsTyped stays.1 typed
-turn_typed g h name typed (inr drop) = typed_after g typed name h (drops_bypasses g typed name h drop)
 
 module _ (g h : GraphValue) (id : NodeId) (others : (other : NodeId) → other ≢ id → node_at h other ≡ node_at g other) where
   others_named : (name : Name) → HasName g id name → (ids : List NodeId) (names : List Name) → ((other : Name) → IsAmong other names → other ≢ name) → AreNamed g ids names → AreNamed h ids names

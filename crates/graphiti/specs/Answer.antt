@@ -3,6 +3,8 @@ use Rattle.std.specs.Prelude.{◌≡◌, ◌≢◌, ◌⊎◌, ℕ, ◌<◌, ◌
 use Rattle.std.specs.declared.alloc.Global.{Global}
 use Rattle.gx_base.specs.Stream.{before, after}
 use Rattle.graph_core.specs.NamedGraph.{NamedGraph}
+use Rattle.module_sem.specs.Circuit.{circuit_of}
+use Rattle.module_sem.specs.Refines.{Refines}
 use Rattle.graphiti.specs.declared.status.Status.{Status}
 use Rattle.graphiti.specs.declared.status.Status.TheVariants.{Done, TooLong, ReadFault, WriteFault, NoMemory, NotYet}
 use Rattle.graphiti.specs.CanonicalText.{text_of}
@@ -22,12 +24,13 @@ pub record ReadWhole (bytes : List ℕ) (old new : Option (List ℕ)) : Type 0 w
   pub given : old ≡ before bytes new
   pub ended : IfSome new (λ rest. rest ≡ [])
 
--- the bytes are the small text of a graph, and the answer is the text of its stripped graph
+-- the bytes are the small text of a graph, and the answer is the text of its stripped graph, which refines it
 pub record StripsText (bytes answer : List ℕ) : Type 0 where
   pub graph : NamedGraph
   pub stripped : NamedGraph
   pub small : IsSmallTextOf graph bytes
   pub is_stripped : IsStripped graph stripped
+  pub refines : Refines (circuit_of stripped) (circuit_of graph)
   pub text : answer ≡ text_of stripped
 
 -- the input was read to its end, and this is the answer to it

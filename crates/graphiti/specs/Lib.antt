@@ -3,6 +3,7 @@ pub mod SmallText
 pub mod Stripped
 pub mod SmallLine
 pub mod Strips
+pub mod Behaviour
 pub mod Bypass
 pub mod PrintedWires
 pub mod PrintedGraph

@@ -6,7 +6,7 @@ use Rattle.graph_core.specs.declared.kind.Kind.{Kind}
 use Rattle.graph_core.specs.declared.kind.Kind.TheVariants.{Buffer}
 use Rattle.graph_core.specs.Name.{Name, Port, name_cmp}
 use Rattle.graph_core.specs.Node.{Body}
-use Rattle.graph_core.specs.NamedGraph.{NamedGraph}
+use Rattle.graph_core.specs.NamedGraph.{NamedGraph, IsTyped}
 
 abbrev pub IsBufferKind : Kind → Type 0
 IsBufferKind (Buffer shape) = Unit {0}
@@ -46,6 +46,10 @@ pub record IsStripped (g h : NamedGraph) : Type 0 where
   pub nodes : (name : Name) (body : Body) → (map.get h.nodes name ≡ Some body) ↔ ((map.get g.nodes name ≡ Some body) × Stays g name)
   pub feeders : (target source : Port) → (map.get h.feeders target ≡ Some source) ↔ FeedsStripped g target source
 
--- there is at most one stripped graph
+-- a typed graph has a stripped graph
+abbrev pub HasStripped : Type 0
+HasStripped = (g : NamedGraph) → IsTyped g → (h : NamedGraph) × IsStripped g h
+
+-- and there is at most one
 abbrev pub IsOneStripped : Type 0
 IsOneStripped = (g h k : NamedGraph) → IsStripped g h → IsStripped g k → h ≡ k

@@ -28,6 +28,10 @@ abbrev pub Turns : NamedGraph → List Name → NamedGraph → Type 0
 Turns g [] h = g ≡ h
 Turns g (name ∷ names) h = (between : NamedGraph) × Turn g name between × Turns between names h
 
+-- the nodes of a typed graph can have their turns
+abbrev pub TurnsEnd : Type 0
+TurnsEnd = (g : NamedGraph) → IsTyped g → (h : NamedGraph) × Turns g (map.keys g.nodes) h
+
 -- when each node had its turn, in the order of their names, the graph is stripped
 abbrev pub TurnsStrip : Type 0
 TurnsStrip = (g h : NamedGraph) → IsTyped g → Turns g (map.keys g.nodes) h → IsStripped g h × IsTyped h

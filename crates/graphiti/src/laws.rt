@@ -1,13 +1,37 @@
 //! Laws of the definitions that the contract of `run` speaks of.
 ghost use Rattle.graphiti.specs.SmallText.{NamesOneGraph};
-ghost use Rattle.graphiti.specs.Stripped.{IsOneStripped};
+ghost use Rattle.graphiti.specs.Stripped.{HasStripped, IsOneStripped};
+ghost use Rattle.graphiti.specs.Strips.{TurnsEnd, TurnsStrip};
+ghost use Rattle.graphiti.specs.Behaviour.{StrippedRefines, StrippedTyped};
+
+use module_sem::{
+    graph_buffer_shows_nothing, graph_typed_as_circuit, refines_in_steps, refines_itself,
+};
 
 /// A small text is the text of one graph alone.
 pub fn names_one_graph()
     ensures { NamesOneGraph }
 {}
 
-/// A graph has one stripped graph.
+/// A typed graph has one stripped graph.
 pub fn one_stripped_graph()
-    ensures { IsOneStripped }
+    ensures some { HasStripped }
+    ensures one { IsOneStripped }
 {}
+
+/// Each node of a typed graph can have its turn, and the turns of all in the order of their names strip it.
+pub fn turns_strip()
+    ensures end { TurnsEnd }
+    ensures strip { TurnsStrip }
+{}
+
+/// The stripped graph of a typed graph is typed, and in no surrounding circuit shows anything that the graph does not.
+pub fn stripped_refines()
+    ensures typed { StrippedTyped }
+    ensures refines { StrippedRefines }
+{
+    refines_itself();
+    refines_in_steps();
+    graph_typed_as_circuit();
+    graph_buffer_shows_nothing();
+}

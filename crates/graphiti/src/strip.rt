@@ -3,23 +3,28 @@ ghost use Rattle.std.specs.Prelude.{◌≡◌, ◌≢◌, IfOk, OnOk, IfSome, If
 ghost use Rattle.std.specs.FinMap as map_of;
 ghost use Rattle.graph_core.specs.NamedGraph.{IsTyped};
 ghost use Rattle.graph_core.specs.GraphValue.{by_names, node_at};
+ghost use Rattle.module_sem.specs.Circuit.{circuit_of};
+ghost use Rattle.module_sem.specs.Refines.{Refines};
 ghost use Rattle.graphiti.specs.Stripped.{IsStripped};
 ghost use Rattle.graphiti.specs.Strips.{Drops, StaysAtTurn, Turn, Turns};
 ghost use Rattle.graphiti.specs.Bypass.{IsFedBuffer};
 ghost use Rattle.graphiti.specs.PrintedGraph.{AreInOrder};
 
+use crate::laws::stripped_refines;
 use graph_core::{AddWire, Graph, Kind, NodeId, PortAt};
 use port_types::NoMemory;
 use std::alloc::Global;
 
 /// The stripped graph: without Buffers, but that each ring made of Buffers alone leaves the one with the greatest name, wired to
-/// itself. The Buffers are dropped in byte order of their names, each unless it is wired to itself at its turn. The only error is
-/// want of memory; the graph is then given up.
+/// itself. In no surrounding circuit does it show anything that the graph does not. The Buffers are dropped in byte order of their
+/// names, each unless it is wired to itself at its turn. The only error is want of memory; the graph is then given up.
 pub fn strip(alloc: Global, mut g: Graph) -> Result<Graph, NoMemory>
     requires { IsTyped (by_names g) }
     ensures stripped { IfOk result (λ stripped. IsStripped (by_names g) (by_names stripped)) }
     ensures typed { IfOk result (λ stripped. IsTyped (by_names stripped)) }
+    ensures refines { IfOk result (λ stripped. Refines (circuit_of (by_names stripped)) (circuit_of (by_names g))) }
 {
+    stripped_refines();
     let ids = g.by_name(alloc)?;
     drop_buffers(&mut g, &ids)?;
     Ok(g)

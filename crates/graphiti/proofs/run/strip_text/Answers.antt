@@ -15,5 +15,6 @@ returns-clause-text c =
       stripped = by_names c.in_ok-stripped.stripped;
       small = rw c.in-Some.is at c.in_ok-g.ensures.found;
       is_stripped = c.in_ok-stripped.ensures.stripped;
+      refines = c.in_ok-stripped.ensures.refines;
       text = c.in_ok-text.ensures;
     }

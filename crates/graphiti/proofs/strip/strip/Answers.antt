@@ -1,4 +1,4 @@
--- The turns of all nodes in order strip the graph.
+-- The turns of all nodes in order strip the graph, and by the law of stripped graphs the stripped graph refines it.
 use Rattle.graph_core.specs.GraphValue.{by_names}
 use Rattle.graphiti.proofs.Stripping.{turns_strip}
 use Rattle.graphiti.proofs.strip.strip.Goals as goal
@@ -8,3 +8,7 @@ returns-clause-stripped c = (turns_strip (by_names c.args.g) (by_names c.drop_bu
 
 pub returns-clause-typed : goal.returns-clause-typed
 returns-clause-typed c = (turns_strip (by_names c.args.g) (by_names c.drop_buffers.new.g) c.requires c.in_ok-drop_buffers.ensures).1
+
+pub returns-clause-refines : goal.returns-clause-refines
+returns-clause-refines c =
+    c.stripped_refines.ensures.refines (by_names c.args.g) (by_names c.drop_buffers.new.g) c.requires (turns_strip (by_names c.args.g) (by_names c.drop_buffers.new.g) c.requires c.in_ok-drop_buffers.ensures).0
