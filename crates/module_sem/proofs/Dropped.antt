@@ -43,12 +43,12 @@ module _ (c : Circuit) (b : Name) (can : CanDrop c b) (ty : Typed c) where
   pub fed : (p q : Port) → (drop_node b c).feeder p ≡ Some q → Fed c b p q
   fed p q e = fed_at p q (c.feeder p) refl (sym (feeder_dropped c b can p (port_kept p q e)) ∙ e)
 
-  fed_straight : (p q : Port) → p.node ≢ b → c.feeder p ≡ Some q → q.node ≢ b → (drop_node b c).feeder p ≡ Some q
+  pub fed_straight : (p q : Port) → p.node ≢ b → c.feeder p ≡ Some q → q.node ≢ b → (drop_node b c).feeder p ≡ Some q
   fed_straight p q away f ne =
       feeder_dropped c b can p away ∙ ap (bypass b (c.feeder (record { node = b; port = 1 }))) f
       ∙ ap (λ z. if z then c.feeder (record { node = b; port = 1 }) else Some q) (other_test q.node b ne)
 
-  fed_across : (p r : Port) → p.node ≢ b → c.feeder p ≡ Some r → r.node ≡ b → (drop_node b c).feeder p ≡ c.feeder (record { node = b; port = 1 })
+  pub fed_across : (p r : Port) → p.node ≢ b → c.feeder p ≡ Some r → r.node ≡ b → (drop_node b c).feeder p ≡ c.feeder (record { node = b; port = 1 })
   fed_across p r away f is =
       feeder_dropped c b can p away ∙ ap (bypass b (c.feeder (record { node = b; port = 1 }))) f
       ∙ ap (λ z. if z then c.feeder (record { node = b; port = 1 }) else Some r) (same_test r.node b is)

@@ -1,5 +1,5 @@
 -- The graph without a Buffer stands for the circuit without it.
-use Rattle.std.proofs.Common.{◌≡◌, ◌≢◌, inl, inr, Bool, true, false, not, ◌||◌, refl, sym, ap, subst, ◌∙◌, bytes_eq, cond, if◌then◌else◌, Option, Some, None}
+use Rattle.std.proofs.Common.{◌≡◌, ◌≢◌, inl, inr, Bool, true, false, not, ◌||◌, refl, sym, ap, subst, ◌∙◌, bytes_eq, cond, if◌then◌else◌, List, Option, Some, None}
 use Rattle.std.specs.Ordering.{eq_by_cmp}
 use Rattle.std.specs.FinMap as map
 use Rattle.graph_core.specs.declared.kind.Kind.TheVariants.{Buffer}
@@ -7,13 +7,16 @@ use Rattle.graph_core.specs.Name.{Name, Port, port_cmp, port_get}
 use Rattle.graph_core.specs.Kind.{ins}
 use Rattle.graph_core.specs.Node.{Body}
 use Rattle.graph_core.specs.NamedGraph.{NamedGraph, IsTyped, is_of, without_node, with_wire}
+use Rattle.module_sem.specs.Side.{Token}
 use Rattle.module_sem.specs.Circuit.{Typed, circuit_of, kind_of_body}
 use Rattle.module_sem.specs.Refines.{Refines}
 use Rattle.module_sem.specs.Buffers.{first_port, bypass, drop_node, CanDropBuffer, IsWithoutBuffer}
+use Rattle.module_sem.specs.Drains.{Drains}
 use Rattle.module_sem.proofs.Names.{name_cases, same_test, other_test}
 use Rattle.module_sem.proofs.Steps.{some_inj}
 use Rattle.module_sem.proofs.Dropping.{single_port, out_port}
 use Rattle.module_sem.proofs.Dropped.{can_drop_of, dropped, put}
+use Rattle.module_sem.proofs.Draining.{drains_without}
 use Rattle.module_sem.proofs.Renaming.{circuit_same}
 use Rattle.module_sem.proofs.Maps.{port_cases, get_without_name, get_with_port, get_kept_port}
 use Rattle.module_sem.proofs.GraphCircuits.{circuit_typed}
@@ -87,3 +90,6 @@ module _ (h g : NamedGraph) (b : Name) (ty : IsTyped g) (w : IsWithoutBuffer h g
 
   pub graph_put_refines : Refines (circuit_of g) (circuit_of h)
   graph_put_refines = subst (Refines (circuit_of g)) (sym without_circuit) (put (circuit_of g) b typed can_drop)
+
+  pub graph_drains : (ins outs : Name → List Token) → Drains (circuit_of g) ins outs → Drains (circuit_of h) ins outs
+  graph_drains ins outs d = subst (λ c. Drains c ins outs) (sym without_circuit) (drains_without (circuit_of g) b can_drop typed ins outs d)

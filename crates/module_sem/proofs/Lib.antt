@@ -5,11 +5,14 @@ pub mod Sim
 pub mod Linking
 mod Rows
 pub mod Fitting
+pub mod Roots
+pub mod Resting
 pub mod Beside
 pub mod Refining
 pub mod Matching
 pub mod Dropping
 mod Dropped
+mod Draining
 mod Renaming
 mod Transitive
 mod Together
@@ -22,3 +25,4 @@ mod Maps
 mod GraphCircuits
 mod GraphBuffers
 mod LoneWire
+mod WireDrains

@@ -25,7 +25,7 @@ use Rattle.module_sem.proofs.Maps.{port_cases, get_with_name, get_with_port}
 use Rattle.module_sem.proofs.GraphCircuits.{graph_typed}
 
 -- the circuit, spelled out
-abbrev wire : Shape → Circuit
+abbrev pub wire : Shape → Circuit
 wire shape =
     record {
       kind_at = λ n. if bytes_eq n exit_name then Some (Exit shape) else (if bytes_eq n entry_name then Some (Entry shape) else None);
@@ -50,11 +50,11 @@ module _ (shape : Shape) where
       get_with_port map.empty (first_port exit_name) (first_port entry_name) p
       ∙ ap (cond (eq_by_cmp port_cmp p (first_port exit_name)) (Some (first_port entry_name))) (map.get-empty port_cmp p)
 
-  is_wire : circuit_of (lone_wire shape) ≡ wire shape
+  pub is_wire : circuit_of (lone_wire shape) ≡ wire shape
   is_wire = circuit_same _ _ kinds_same feeders_same
 
 -- each node is the one or the other
-data Node (shape : Shape) (n : Name) (k : Kind) : Type 0 where
+pub data Node (shape : Shape) (n : Name) (k : Kind) : Type 0 where
   first : n ≡ entry_name → k ≡ Entry shape → Node shape n k
   last : n ≡ exit_name → k ≡ Exit shape → Node shape n k
 
@@ -63,7 +63,7 @@ record Edge (p q : Port) : Type 0 where
   from : q ≡ first_port entry_name
 
 module _ (shape : Shape) where
-  node : (n : Name) (k : Kind) → (wire shape).kind_at n ≡ Some k → Node shape n k
+  pub node : (n : Name) (k : Kind) → (wire shape).kind_at n ≡ Some k → Node shape n k
   node n k e =
       elim (name_cases n exit_name) [
         | inl is ↦ last is.is (sym (some_inj (Exit shape) k (ap (λ b. if b then Some (Exit shape) else (if bytes_eq n entry_name then Some (Entry shape) else None)) (sym is.test) ∙ e)))
@@ -192,11 +192,11 @@ first_label (m ∷ ms) = m.label
 
 -- nothing is taken before, whatever comes first
 module _ (shape : Shape) where
-  no_fire : (n : Name) (choice : ℕ) (t : State) → Step (wire shape) (start (wire shape)) n (Fire choice) t → ⊥
-  no_fire n choice t st =
+  pub no_fire : (s : State) (n : Name) (choice : ℕ) (t : State) → Step (wire shape) s n (Fire choice) t → ⊥
+  no_fire s n choice t st =
       elim (node shape n st.kind st.is_kind) [
-        | first is e ↦ acts_at (wire shape) (start (wire shape)) n (Fire choice) t st (Entry shape) (st.is_kind ∙ ap Some e)
-        | last is e ↦ acts_at (wire shape) (start (wire shape)) n (Fire choice) t st (Exit shape) (st.is_kind ∙ ap Some e)
+        | first is e ↦ acts_at (wire shape) s n (Fire choice) t st (Entry shape) (st.is_kind ∙ ap Some e)
+        | last is e ↦ acts_at (wire shape) s n (Fire choice) t st (Exit shape) (st.is_kind ∙ ap Some e)
       ]
 
   no_take : (n : Name) (v : Token) (t : State) → Step (wire shape) (start (wire shape)) n (Take v) t → ⊥
@@ -217,7 +217,7 @@ module _ (shape : Shape) where
       at : (n : Name) (l : Label) (mid : State) → Step (wire shape) (start (wire shape)) n l mid → shown n l (trace ms) ≡ took v ∷ [] → ⊥
       at n (Feed x) mid st same = let label : Feed x ≡ Take v = ap first_label same in cc
       at n (Take x) mid st same = no_take n x mid st
-      at n (Fire x) mid st same = no_fire n x mid st
+      at n (Fire x) mid st same = no_fire (start (wire shape)) n x mid st
 
 pub wire_shows_no_other : (shape : Shape) (v : Token) → Shows (circuit_of (lone_wire shape)) (took v ∷ []) → ⊥
 wire_shows_no_other shape v h =

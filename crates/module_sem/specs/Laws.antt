@@ -1,10 +1,13 @@
 -- The laws of circuits. Each is proved of a function of this crate.
-use Rattle.std.specs.Prelude.{List, [], ◌∷◌}
+use Rattle.std.specs.Prelude.{◌≡◌, ◌↔◌, List, [], ◌∷◌, Some}
 use Rattle.port_types.specs.Shape.{IsShape}
 use Rattle.port_types.specs.Token.{Fits}
-use Rattle.graph_core.specs.Name.{Name}
+use Rattle.graph_core.specs.declared.kind.Kind.{Kind}
+use Rattle.graph_core.specs.declared.kind.Kind.TheVariants.{Buffer}
+use Rattle.graph_core.specs.Name.{Name, Port}
 use Rattle.graph_core.specs.Kind.{Shape}
 use Rattle.graph_core.specs.NamedGraph.{NamedGraph, IsTyped}
+use Rattle.module_sem.specs.Each.{Each}
 use Rattle.module_sem.specs.Side.{Token}
 use Rattle.module_sem.specs.Circuit.{Circuit, Typed, circuit_of}
 use Rattle.module_sem.specs.State.{State, start, IsStateOf}
@@ -12,8 +15,10 @@ use Rattle.module_sem.specs.Firing.{Label}
 use Rattle.module_sem.specs.Run.{Step, Move, Shows}
 use Rattle.module_sem.specs.Plug.{Link, plug, CanPlug}
 use Rattle.module_sem.specs.Refines.{Refines}
-use Rattle.module_sem.specs.Buffers.{drop_node, CanDropBuffer, IsWithoutBuffer}
-use Rattle.module_sem.specs.LoneWire.{lone_wire, fed, took}
+use Rattle.module_sem.specs.Buffers.{first_port, drop_node, CanDropBuffer, IsWithoutBuffer}
+use Rattle.module_sem.specs.Root.{Root}
+use Rattle.module_sem.specs.Drains.{IsInit, IsRest, Drains}
+use Rattle.module_sem.specs.LoneWire.{entry_name, exit_name, lone_wire, fed, took}
 
 -- what a typed circuit holds at the start fits
 abbrev pub StartIsState : Type 0
@@ -84,3 +89,39 @@ WireShowsToken = (shape : Shape) (v : Token) → Fits shape v →
 -- and none can be taken before
 abbrev pub WireShowsNoOther : Type 0
 WireShowsNoOther = (shape : Shape) (v : Token) → ¬ (Shows (circuit_of (lone_wire shape)) (took v ∷ []))
+
+-- an input has at most one root
+abbrev pub RootIsOne : Type 0
+RootIsOne = (c : Circuit) (p q r : Port) → Root c p q → Root c p r → q ≡ r
+
+-- and a Buffer that is wired to itself has none
+abbrev pub RingHasNoRoot : Type 0
+RingHasNoRoot = (c : Circuit) (b : Name) (shape : Shape) (q : Port) →
+    c.kind_at b ≡ Some (Buffer shape) → c.feeder (first_port b) ≡ Some (first_port b) → ¬ (Root c (first_port b) q)
+
+-- the rest state is one, whatever the order in which the led nodes fire
+abbrev pub RestIsOne : Type 0
+RestIsOne = (c : Circuit) (r s : State) → IsRest c r → IsRest c s → r ≡ s
+
+-- with no Init the start is at rest
+abbrev pub RestsWithoutInit : Type 0
+RestsWithoutInit = (c : Circuit) → ((n : Name) (k : Kind) → c.kind_at n ≡ Some k → ¬ (IsInit k)) → IsRest c (start c)
+
+-- as no kind is an Init yet, the start of each typed circuit is at rest
+abbrev pub StartRests : Type 0
+StartRests = (c : Circuit) → Typed c → IsRest c (start c)
+
+-- what a circuit drains it drains without a Buffer
+abbrev pub DropDrains : Type 0
+DropDrains = (c : Circuit) (b : Name) (ins outs : Name → List Token) → Typed c → CanDropBuffer c b →
+    Drains c ins outs → Drains (drop_node b c) ins outs
+
+-- and so does a graph
+abbrev pub GraphDropDrains : Type 0
+GraphDropDrains = (h g : NamedGraph) (b : Name) (ins outs : Name → List Token) → IsTyped g → IsWithoutBuffer h g b →
+    Drains (circuit_of g) ins outs → Drains (circuit_of h) ins outs
+
+-- a wire from an Entry to an Exit drains fitting tokens to themselves, and to nothing else
+abbrev pub WireDrains : Type 0
+WireDrains = (shape : Shape) (ins outs : Name → List Token) →
+    Drains (circuit_of (lone_wire shape)) ins outs ↔ (Each (Fits shape) (ins entry_name) × (outs exit_name ≡ ins entry_name))

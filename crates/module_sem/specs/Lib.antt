@@ -7,5 +7,7 @@ pub mod Run
 pub mod Plug
 pub mod Refines
 pub mod Buffers
+pub mod Root
+pub mod Drains
 pub mod LoneWire
 pub mod Laws

@@ -1,9 +1,9 @@
-//! What circuits do: their states and steps, what is seen of a run, and when one circuit refines another.
+//! What circuits do: their states and steps, what is seen of a run, when one circuit refines another, and what a circuit drains.
 //!
 //! The crate has definitions and laws, and no calls: each function has an empty body, and a law of `specs/` for its contract.
 #![tactic(auto)]
 
-ghost use Rattle.module_sem.specs.Laws.{StartIsState, StepKeepsState, RefinesItself, RefinesInSteps, RefinesAlone, PlugIsTyped, WholeRefines, DropRefines, PutRefines, CircuitIsTyped, GraphIsTyped, GraphDropRefines, GraphPutRefines, WireIsTyped, WireShowsToken, WireShowsNoOther};
+ghost use Rattle.module_sem.specs.Laws.{StartIsState, StepKeepsState, RefinesItself, RefinesInSteps, RefinesAlone, PlugIsTyped, WholeRefines, DropRefines, PutRefines, CircuitIsTyped, GraphIsTyped, GraphDropRefines, GraphPutRefines, WireIsTyped, WireShowsToken, WireShowsNoOther, RootIsOne, RingHasNoRoot, RestIsOne, RestsWithoutInit, StartRests, DropDrains, GraphDropDrains, WireDrains};
 
 /// In each state that a typed circuit reaches, tokens fit the shapes of their wires.
 pub fn states_fit()
@@ -59,4 +59,28 @@ pub fn wire_shows_tokens()
     ensures typed { WireIsTyped }
     ensures token { WireShowsToken }
     ensures no_other { WireShowsNoOther }
+{}
+
+/// Going backwards from an input, through Buffers and Forks, a walk ends at one output or never ends.
+pub fn one_root()
+    ensures one { RootIsOne }
+    ensures none { RingHasNoRoot }
+{}
+
+/// The Buffers and Forks that Inits lead to may fire in any order: a circuit has one rest state, and with no Init it is the start.
+pub fn one_rest()
+    ensures one { RestIsOne }
+    ensures without_init { RestsWithoutInit }
+    ensures start { StartRests }
+{}
+
+/// What a circuit drains it drains without a Buffer.
+pub fn buffer_keeps_drains()
+    ensures circuit { DropDrains }
+    ensures graph { GraphDropDrains }
+{}
+
+/// The definition of drains is met and refuses: a wire from an Entry to an Exit drains tokens that fit to themselves, and to nothing else.
+pub fn wire_drains_tokens()
+    ensures { WireDrains }
 {}
