@@ -7,6 +7,7 @@ pub mod Turning
 pub mod TurnsMade
 pub mod Stripping
 pub mod Refining
+pub mod KeepingDrains
 pub mod LineParts
 pub mod SmallLines
 pub mod SmallEntries

@@ -13,7 +13,7 @@ use Rattle.graphiti.proofs.Dropping.{buffer_at, turn_typed}
 use Rattle.graphiti.proofs.TurnsMade.{turns_end}
 use Rattle.graphiti.proofs.Stripping.{turns_strip, one_stripped}
 
-without_buffer : (g h : NamedGraph) (name : Name) → Drops g name h → IsWithoutBuffer h g name
+pub without_buffer : (g h : NamedGraph) (name : Name) → Drops g name h → IsWithoutBuffer h g name
 without_buffer g h name drop =
     let at = buffer_at g name drop.buffer in
     record {

@@ -10,6 +10,7 @@ use Rattle.graphiti.specs.declared.status.Status.TheVariants.{Done, TooLong, Rea
 use Rattle.graphiti.specs.CanonicalText.{text_of}
 use Rattle.graphiti.specs.SmallText.{IsSmallText, IsSmallTextOf}
 use Rattle.graphiti.specs.Stripped.{IsStripped}
+use Rattle.graphiti.specs.Behaviour.{KeepsDrains}
 
 -- the most bytes of an input
 abbrev pub max_input : ℕ
@@ -24,13 +25,14 @@ pub record ReadWhole (bytes : List ℕ) (old new : Option (List ℕ)) : Type 0 w
   pub given : old ≡ before bytes new
   pub ended : IfSome new (λ rest. rest ≡ [])
 
--- the bytes are the small text of a graph, and the answer is the text of its stripped graph, which refines it
+-- the bytes are the small text of a graph, and the answer is the text of its stripped graph, which refines it and drains what it drains
 pub record StripsText (bytes answer : List ℕ) : Type 0 where
   pub graph : NamedGraph
   pub stripped : NamedGraph
   pub small : IsSmallTextOf graph bytes
   pub is_stripped : IsStripped graph stripped
   pub refines : Refines (circuit_of stripped) (circuit_of graph)
+  pub drains : KeepsDrains stripped graph
   pub text : answer ≡ text_of stripped
 
 -- the input was read to its end, and this is the answer to it

@@ -1,7 +1,11 @@
 -- What the stripped graph does, as a circuit.
+use Rattle.std.specs.Prelude.{List}
+use Rattle.graph_core.specs.Name.{Name}
 use Rattle.graph_core.specs.NamedGraph.{NamedGraph, IsTyped}
 use Rattle.module_sem.specs.Circuit.{circuit_of}
+use Rattle.module_sem.specs.Side.{Token}
 use Rattle.module_sem.specs.Refines.{Refines}
+use Rattle.module_sem.specs.Drains.{Drains}
 use Rattle.graphiti.specs.Stripped.{IsStripped}
 
 -- the stripped graph of a typed graph is typed
@@ -11,3 +15,11 @@ StrippedTyped = (g h : NamedGraph) → IsTyped g → IsStripped g h → IsTyped 
 -- and in no surrounding circuit shows anything that the graph does not
 abbrev pub StrippedRefines : Type 0
 StrippedRefines = (g h : NamedGraph) → IsTyped g → IsStripped g h → Refines (circuit_of h) (circuit_of g)
+
+-- what graph g drains, by itself, graph h drains to the same outputs
+abbrev pub KeepsDrains : NamedGraph → NamedGraph → Type 0
+KeepsDrains h g = (ins outs : Name → List Token) → Drains (circuit_of g) ins outs → Drains (circuit_of h) ins outs
+
+-- and what the graph drains the stripped graph drains
+abbrev pub StrippedDrains : Type 0
+StrippedDrains = (g h : NamedGraph) → IsTyped g → IsStripped g h → KeepsDrains h g

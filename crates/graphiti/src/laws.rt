@@ -2,10 +2,11 @@
 ghost use Rattle.graphiti.specs.SmallText.{NamesOneGraph};
 ghost use Rattle.graphiti.specs.Stripped.{HasStripped, IsOneStripped};
 ghost use Rattle.graphiti.specs.Strips.{TurnsEnd, TurnsStrip};
-ghost use Rattle.graphiti.specs.Behaviour.{StrippedRefines, StrippedTyped};
+ghost use Rattle.graphiti.specs.Behaviour.{StrippedDrains, StrippedRefines, StrippedTyped};
 
 use module_sem::{
-    graph_buffer_shows_nothing, graph_typed_as_circuit, refines_in_steps, refines_itself,
+    buffer_keeps_drains, graph_buffer_shows_nothing, graph_typed_as_circuit, refines_in_steps,
+    refines_itself,
 };
 
 /// A small text is the text of one graph alone.
@@ -34,4 +35,11 @@ pub fn stripped_refines()
     refines_in_steps();
     graph_typed_as_circuit();
     graph_buffer_shows_nothing();
+}
+
+/// What a typed graph drains, by itself, its stripped graph drains to the same outputs.
+pub fn stripped_drains()
+    ensures { StrippedDrains }
+{
+    buffer_keeps_drains();
 }

@@ -5,12 +5,13 @@ ghost use Rattle.graph_core.specs.NamedGraph.{IsTyped};
 ghost use Rattle.graph_core.specs.GraphValue.{by_names, node_at};
 ghost use Rattle.module_sem.specs.Circuit.{circuit_of};
 ghost use Rattle.module_sem.specs.Refines.{Refines};
+ghost use Rattle.graphiti.specs.Behaviour.{KeepsDrains};
 ghost use Rattle.graphiti.specs.Stripped.{IsStripped};
 ghost use Rattle.graphiti.specs.Strips.{Drops, StaysAtTurn, Turn, Turns};
 ghost use Rattle.graphiti.specs.Bypass.{IsFedBuffer};
 ghost use Rattle.graphiti.specs.PrintedGraph.{AreInOrder};
 
-use crate::laws::stripped_refines;
+use crate::laws::{stripped_drains, stripped_refines};
 use graph_core::{AddWire, Graph, Kind, NodeId, PortAt};
 use port_types::NoMemory;
 use std::alloc::Global;
@@ -23,8 +24,10 @@ pub fn strip(alloc: Global, mut g: Graph) -> Result<Graph, NoMemory>
     ensures stripped { IfOk result (λ stripped. IsStripped (by_names g) (by_names stripped)) }
     ensures typed { IfOk result (λ stripped. IsTyped (by_names stripped)) }
     ensures refines { IfOk result (λ stripped. Refines (circuit_of (by_names stripped)) (circuit_of (by_names g))) }
+    ensures drains { IfOk result (λ stripped. KeepsDrains (by_names stripped) (by_names g)) }
 {
     stripped_refines();
+    stripped_drains();
     let ids = g.by_name(alloc)?;
     drop_buffers(&mut g, &ids)?;
     Ok(g)

@@ -16,5 +16,6 @@ returns-clause-text c =
       small = rw c.in-Some.is at c.in_ok-g.ensures.found;
       is_stripped = c.in_ok-stripped.ensures.stripped;
       refines = c.in_ok-stripped.ensures.refines;
+      drains = c.in_ok-stripped.ensures.drains;
       text = c.in_ok-text.ensures;
     }
