@@ -94,12 +94,12 @@ WireShowsNoOther = (shape : Shape) (v : Token) → ¬ (Shows (circuit_of (lone_w
 abbrev pub RootIsOne : Type 0
 RootIsOne = (c : Circuit) (p q r : Port) → Root c p q → Root c p r → q ≡ r
 
--- and a Buffer that is wired to itself has none
+-- and that of a Buffer that is wired to itself has none
 abbrev pub RingHasNoRoot : Type 0
 RingHasNoRoot = (c : Circuit) (b : Name) (shape : Shape) (q : Port) →
     c.kind_at b ≡ Some (Buffer shape) → c.feeder (first_port b) ≡ Some (first_port b) → ¬ (Root c (first_port b) q)
 
--- the rest state is one, whatever the order in which the led nodes fire
+-- there is at most one rest state, whatever the order in which the led nodes fire
 abbrev pub RestIsOne : Type 0
 RestIsOne = (c : Circuit) (r s : State) → IsRest c r → IsRest c s → r ≡ s
 

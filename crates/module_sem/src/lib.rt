@@ -61,13 +61,13 @@ pub fn wire_shows_tokens()
     ensures no_other { WireShowsNoOther }
 {}
 
-/// Going backwards from an input, through Buffers and Forks, a walk ends at one output or never ends.
+/// An input has at most one root, and that of a Buffer that is wired to itself has none.
 pub fn one_root()
     ensures one { RootIsOne }
     ensures none { RingHasNoRoot }
 {}
 
-/// The Buffers and Forks that Inits lead to may fire in any order: a circuit has one rest state, and with no Init it is the start.
+/// The Buffers and Forks that Inits lead to may fire in any order: a circuit has at most one rest state, and with no Init it is the start.
 pub fn one_rest()
     ensures one { RestIsOne }
     ensures without_init { RestsWithoutInit }
