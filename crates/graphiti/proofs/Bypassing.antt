@@ -13,7 +13,8 @@ use Rattle.graph_core.specs.Kind.{Shape, ins}
 use Rattle.graph_core.specs.Node.{body_of}
 use Rattle.graph_core.specs.NamedGraph.{NamedGraph, IsTyped, IsWire, CanWire, is_of, with_wire, without_node}
 use Rattle.graph_core.specs.GraphValue.{GraphValue, node_at, name_of, by_names, port_named, with_feeder, without_slot}
-use Rattle.graphiti.specs.Stripped.{IsBufferKind, IsBuffer, first_port}
+use Rattle.module_sem.specs.Buffers.{first_port}
+use Rattle.graphiti.specs.Stripped.{IsBufferKind, IsBuffer}
 use Rattle.graphiti.specs.Strips.{Drops, StaysAtTurn}
 use Rattle.graphiti.specs.Bypass.{IsFedBuffer}
 use Rattle.graphiti.proofs.Lookups.{port_total, port_same, get_inserted, get_retained}
@@ -78,6 +79,14 @@ some_in : {X : Type 0} (o : Option X) → IsSome o → (x : X) × (o ≡ Some x)
 some_in None some = absurd (true≢false (sym some))
 some_in (Some x) some = (x, refl)
 
+-- the first port of a node that is there
+module _ (g : GraphValue) (id : NodeId) (node : Node) (port : PortAt) (at : node_at g id ≡ Some node) (first : port ≡ record { node = id; port = 1 }) where
+  first_named : port_named g port ≡ first_port node.name
+  first_named = ap (port_named g) first ∙ (λ i. record { node = name_of (at i); port = 1 })
+
+  first_live : IsSome (node_at g port.node)
+  first_live = ap (λ (p : PortAt). is_some (node_at g p.node)) first ∙ ap is_some at
+
 -- the Buffer of this id is fed, and this is its first port
 pub record FedById (g : GraphValue) (id : NodeId) (source port : PortAt) : Type 0 where
   pub typed : IsTyped (by_names g)
@@ -87,17 +96,11 @@ pub record FedById (g : GraphValue) (id : NodeId) (source port : PortAt) : Type 
 module _ {g : GraphValue} {id : NodeId} {source port : PortAt} (fed : FedById g id source port) where
   open fed use {is}
 
-  first_named : port_named g port ≡ first_port is.node.name
-  first_named = ap (port_named g) fed.first ∙ (λ i. record { node = name_of (is.at i); port = 1 })
-
-  first_live : IsSome (node_at g port.node)
-  first_live = ap (λ (p : PortAt). is_some (node_at g p.node)) fed.first ∙ ap is_some is.at
-
   -- the Buffer's output stands on a wire
   pub feeds_some : (IsSome (node_at g port.node) → (target : Port) → map.get (by_names g).feeders target ≢ Some (port_named g port)) → ⊥
   feeds_some none =
       let (to, feeds) = buffer_feeds (by_names g) fed.typed is.node.name is.buffer in
-      none first_live to (feeds ∙ ap Some (sym first_named))
+      none (first_live g id is.node port is.at fed.first) to (feeds ∙ ap Some (sym (first_named g id is.node port is.at fed.first)))
 
 -- h is g without that Buffer
 pub record Removal (g : GraphValue) (id : NodeId) (source : PortAt) (h : GraphValue) (port : PortAt) : Type 0 where
@@ -130,7 +133,7 @@ module _ {g : GraphValue} {id : NodeId} {source : PortAt} {h : GraphValue} {port
 
   module _ (target : PortAt) (wired : map.get (by_names g).feeders (port_named g target) ≡ Some (port_named g port)) where
     feeds : map.get (by_names g).feeders (port_named g target) ≡ Some (first_port is.node.name)
-    feeds = wired ∙ ap Some (first_named fed)
+    feeds = wired ∙ ap Some (first_named g id is.node port is.at fed.first)
 
     apart_target : target.node ≢ id
     apart_target same =
@@ -172,15 +175,9 @@ module _ {g : GraphValue} {id : NodeId} {node : Node} {port : PortAt} (buffer : 
   is_buffer : IsBuffer (by_names g) node.name
   is_buffer = subst (λ there. IsSomeAnd there (λ body. IsBufferKind body.kind)) (sym found) (subst IsBufferKind (sym buffer.kind) tt)
 
-  is_first : port_named g port ≡ first_port node.name
-  is_first = ap (port_named g) buffer.first ∙ (λ i. record { node = name_of (buffer.at i); port = 1 })
-
-  live : IsSome (node_at g port.node)
-  live = ap (λ (p : PortAt). is_some (node_at g p.node)) buffer.first ∙ ap is_some buffer.at
-
   module _ (fed : Option PortAt) (names : IsSome (node_at g port.node) → option_map (port_named g) fed ≡ map.get (by_names g).feeders (port_named g port)) where
     feeder : map.get (by_names g).feeders (first_port node.name) ≡ option_map (port_named g) fed
-    feeder = sym (ap (map.get (by_names g).feeders) is_first) ∙ sym (names live)
+    feeder = sym (ap (map.get (by_names g).feeders) (first_named g id node port buffer.at buffer.first)) ∙ sym (names (first_live g id node port buffer.at buffer.first))
 
     -- the Buffer's input stands on a wire
     pub fed_some : fed ≢ None

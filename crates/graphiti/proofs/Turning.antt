@@ -6,7 +6,8 @@ use Rattle.std.specs.FinMap.{find, is_sorted}
 use Rattle.std.specs.FinMap.Entries.{below_all}
 use Rattle.graph_core.specs.Name.{Name, Port, name_cmp}
 use Rattle.graph_core.specs.NamedGraph.{NamedGraph, IsTyped}
-use Rattle.graphiti.specs.Stripped.{IsBuffer, first_port, Meets.feeds, IsLastOfRing, FeedsStripped, IsStripped}
+use Rattle.module_sem.specs.Buffers.{first_port}
+use Rattle.graphiti.specs.Stripped.{IsBuffer, Meets.feeds, IsLastOfRing, FeedsStripped, IsStripped}
 use Rattle.graphiti.specs.Strips.{StaysAtTurn, Turns}
 use Rattle.graphiti.proofs.EntryLists.{first, second, less}
 use Rattle.graphiti.proofs.Lookups.{name_total, name_same, name_cases, other_test}

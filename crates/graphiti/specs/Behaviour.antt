@@ -11,3 +11,7 @@ StrippedTyped = (g h : NamedGraph) → IsTyped g → IsStripped g h → IsTyped 
 -- and in no surrounding circuit shows anything that the graph does not
 abbrev pub StrippedRefines : Type 0
 StrippedRefines = (g h : NamedGraph) → IsTyped g → IsStripped g h → Refines (circuit_of h) (circuit_of g)
+
+-- nor the graph anything that the stripped graph does not
+abbrev pub StrippedIsRefined : Type 0
+StrippedIsRefined = (g h : NamedGraph) → IsTyped g → IsStripped g h → Refines (circuit_of g) (circuit_of h)

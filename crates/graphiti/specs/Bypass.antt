@@ -5,7 +5,8 @@ use Rattle.graph_core.specs.declared.node.Node.{Node}
 use Rattle.graph_core.specs.declared.place.NodeId.{NodeId}
 use Rattle.graph_core.specs.declared.place.PortAt.{PortAt}
 use Rattle.graph_core.specs.GraphValue.{GraphValue, HasName, node_at, by_names, port_named}
-use Rattle.graphiti.specs.Stripped.{IsBuffer, first_port}
+use Rattle.module_sem.specs.Buffers.{first_port}
+use Rattle.graphiti.specs.Stripped.{IsBuffer}
 
 -- the node of this id is a Buffer with a name of its own, and this output of another node feeds it
 pub record IsFedBuffer (g : GraphValue) (id : NodeId) (source : PortAt) : Type 0 where
