@@ -6,7 +6,7 @@ use Rattle.gx_base.specs.Stream.{before, after, Gave, Rose}
 use Rattle.graphiti.specs.declared.status.Status.{Status}
 use Rattle.graphiti.specs.declared.status.Status.TheVariants.{Done, TooLong, ReadFault, WriteFault, NoMemory, NotYet}
 use Rattle.graphiti.specs.SmallText.{IsSmallText}
-use Rattle.graphiti.specs.Answer.{max_input, ReadWhole, ReadsOther, WritesFrontOf, Responds}
+use Rattle.graphiti.specs.Answer.{max_input, ReadsOther, WritesFrontOf, Responds}
 
 -- a list of one
 pub one_item : {X : Type 0} (xs : List X) (x : X) → length xs ≡ 1 → x ≡ get_or xs 0 x → xs ≡ x ∷ []

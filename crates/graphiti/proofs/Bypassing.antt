@@ -1,6 +1,5 @@
 -- Taking a Buffer out and joining what fed it to what it fed.
-use Rattle.std.proofs.Common.{◌≡◌, ◌≢◌, inl, inr, Bool, true, false, cond, not, ◌||◌, refl, sym, ap, subst, ◌∙◌, Option, Some, None, IsSome, IfSome, is_some, IsSomeAnd, bytes_eq, true≢false}
-use Rattle.std.proofs.lemmas.Bool.{cases_eq}
+use Rattle.std.proofs.Common.{◌≡◌, ◌≢◌, inr, Bool, true, false, cond, not, ◌||◌, refl, sym, ap, subst, ◌∙◌, Option, Some, None, IsSome, IfSome, is_some, IsSomeAnd, bytes_eq, true≢false}
 use Rattle.std.proofs.lemmas.Option.{none-some}
 use Rattle.std.proofs.lemmas.Slice.Eq.{bytes_eq-Decides}
 use Rattle.std.specs.Option.{option_map}
@@ -9,29 +8,24 @@ use Rattle.graph_core.specs.declared.kind.Kind.TheVariants.{Buffer}
 use Rattle.graph_core.specs.declared.node.Node.{Node}
 use Rattle.graph_core.specs.declared.place.NodeId.{NodeId}
 use Rattle.graph_core.specs.declared.place.PortAt.{PortAt}
-use Rattle.graph_core.specs.Place.{index_of}
 use Rattle.graph_core.specs.Name.{Name, Port, port_get}
-use Rattle.graph_core.specs.Kind.{Shape, ins, outs}
+use Rattle.graph_core.specs.Kind.{Shape, ins}
 use Rattle.graph_core.specs.Node.{body_of}
 use Rattle.graph_core.specs.NamedGraph.{NamedGraph, IsTyped, IsWire, CanWire, is_of, with_wire, without_node}
 use Rattle.graph_core.specs.GraphValue.{GraphValue, node_at, name_of, by_names, port_named, with_feeder, without_slot}
-use Rattle.graphiti.specs.Stripped.{IsBufferKind, IsBuffer, first_port}
+use Rattle.module_sem.specs.Buffers.{first_port}
+use Rattle.graphiti.specs.Stripped.{IsBufferKind, IsBuffer}
 use Rattle.graphiti.specs.Strips.{Drops, StaysAtTurn}
 use Rattle.graphiti.specs.Bypass.{IsFedBuffer}
 use Rattle.graphiti.proofs.Lookups.{port_total, port_same, get_inserted, get_retained}
-use Rattle.graphiti.proofs.Dropping.{Bypasses, buffer_feeds, buffer_output, drops_bypasses, typed_after}
-use Rattle.graphiti.proofs.NodesById.{same_id, node_without, names_apart, live_by_name, feeds_by_id}
+use Rattle.graphiti.proofs.Dropping.{Bypasses, neither, found_if, buffer_feeds, buffer_output, drops_bypasses, typed_after}
+use Rattle.graphiti.proofs.NodesById.{node_without}
 
 -- By names
 
 near_source : (a : Bool) {X : Type 0} (o : Option X) (b : Bool) → b ≡ true → cond (not (a || b)) o None ≡ None
 near_source true o b e = refl
 near_source false o b e = ap (λ t. cond (not t) o None) e
-
-near_target : {X : Type 0} (a b : Bool) (o : Option X) (x : X) → cond (not (a || b)) o None ≡ Some x → (a ≡ false) × (o ≡ Some x)
-near_target true b o x e = absurd (none-some x e)
-near_target false true o x e = absurd (none-some x e)
-near_target false false o x e = (refl, e)
 
 module _ (g : NamedGraph) (typed : IsTyped g) (name : Name) (source target : Port) (buffer : IsBuffer g name) (fed : map.get g.feeders (first_port name) ≡ Some source) (feeds : map.get g.feeders target ≡ Some (first_port name)) (other : source.node ≢ name) where
   after : NamedGraph
@@ -65,9 +59,10 @@ module _ (g : NamedGraph) (typed : IsTyped g) (name : Name) (source target : Por
 
   source_free : (p : Port) → map.get (without_node g name).feeders p ≢ Some source
   source_free p wired =
-      let far = near_target (is_of name (Some p)) (is_of name (map.get g.feeders p)) (map.get g.feeders p) source (sym (feeder_left p) ∙ wired) in
+      let far = found_if (not (is_of name (Some p) || is_of name (map.get g.feeders p))) (map.get g.feeders p) source (sym (feeder_left p) ∙ wired) in
+      let away = neither (is_of name (Some p)) (is_of name (map.get g.feeders p)) far.0 in
       let first : p ≡ first_port name = typed.once p (first_port name) source far.1 fed in
-      true≢false (sym itself ∙ ap (λ (z : Port). bytes_eq z.node name) (sym first) ∙ far.0)
+      true≢false (sym itself ∙ ap (λ (z : Port). bytes_eq z.node name) (sym first) ∙ away.0)
 
   -- without the Buffer the wire can be added
   can_join : CanWire (without_node g name) source target
@@ -84,40 +79,43 @@ some_in : {X : Type 0} (o : Option X) → IsSome o → (x : X) × (o ≡ Some x)
 some_in None some = absurd (true≢false (sym some))
 some_in (Some x) some = (x, refl)
 
--- h is g without the Buffer of this id, which source feeds and whose first port this is
-pub record Removal (g : GraphValue) (id : NodeId) (source : PortAt) (h : GraphValue) (port : PortAt) : Type 0 where
+-- the first port of a node that is there
+module _ (g : GraphValue) (id : NodeId) (node : Node) (port : PortAt) (at : node_at g id ≡ Some node) (first : port ≡ record { node = id; port = 1 }) where
+  first_named : port_named g port ≡ first_port node.name
+  first_named = ap (port_named g) first ∙ (λ i. record { node = name_of (at i); port = 1 })
+
+  first_live : IsSome (node_at g port.node)
+  first_live = ap (λ (p : PortAt). is_some (node_at g p.node)) first ∙ ap is_some at
+
+-- the Buffer of this id is fed, and this is its first port
+pub record FedById (g : GraphValue) (id : NodeId) (source port : PortAt) : Type 0 where
   pub typed : IsTyped (by_names g)
   pub is : IsFedBuffer g id source
   pub first : port ≡ record { node = id; port = 1 }
+
+module _ {g : GraphValue} {id : NodeId} {source port : PortAt} (fed : FedById g id source port) where
+  open fed use {is}
+
+  -- the Buffer's output stands on a wire
+  pub feeds_some : (IsSome (node_at g port.node) → (target : Port) → map.get (by_names g).feeders target ≢ Some (port_named g port)) → ⊥
+  feeds_some none =
+      let (to, feeds) = buffer_feeds (by_names g) fed.typed is.node.name is.buffer in
+      none (first_live g id is.node port is.at fed.first) to (feeds ∙ ap Some (sym (first_named g id is.node port is.at fed.first)))
+
+-- h is g without that Buffer
+pub record Removal (g : GraphValue) (id : NodeId) (source : PortAt) (h : GraphValue) (port : PortAt) : Type 0 where
+  pub fed : FedById g id source port
   pub removed : Option Node
   pub node : removed ≡ node_at g id
   pub gone : h ≡ without_slot g id
   pub names : IfSome removed (λ node. by_names h ≡ without_node (by_names g) node.name)
 
 module _ {g : GraphValue} {id : NodeId} {source : PortAt} {h : GraphValue} {port : PortAt} (removal : Removal g id source h port) where
-  open removal use {is}
+  open removal use {fed}
+  open fed use {is, typed}
 
   without : by_names h ≡ without_node (by_names g) is.node.name
   without = subst (λ found. IfSome found (λ node. by_names h ≡ without_node (by_names g) node.name)) (removal.node ∙ is.at) removal.names
-
-  apart : (other : NodeId) (node : Node) → node_at g other ≡ Some node → other ≢ id → node.name ≢ is.node.name
-  apart = names_apart g id is.node.name (ap by_names (sym removal.gone) ∙ without)
-
-  first_named : port_named g port ≡ first_port is.node.name
-  first_named = ap (port_named g) removal.first ∙ (λ i. record { node = name_of (is.at i); port = 1 })
-
-  -- the Buffer's output stands on a wire
-  pub feeds_some : ((target : PortAt) → map.get g.feeders target ≢ Some port) → ⊥
-  feeds_some none =
-      let (to, feeds) = buffer_feeds (by_names g) removal.typed is.node.name is.buffer in
-      let f = feeds_by_id g to (first_port is.node.name) feeds in
-      let (node, live, same) = live_by_name (node_at g f.output.node) is.node.name is.right (ap (λ (p : Port). p.node) f.is_named) in
-      elim (cases_eq (index_of f.output.node) (index_of id)) [
-        | inl e ↦
-            let at : f.output ≡ record { node = id; port = 1 } = λ i. record { node = same_id f.output.node id e i; port = ap (λ (p : Port). p.port) f.is_named i } in
-            none f.target (f.wired ∙ ap Some (at ∙ sym removal.first))
-        | inr e ↦ apart f.output.node node live (λ same. e (ap index_of same)) same
-      ]
 
   kept : (other : NodeId) → other ≢ id → node_at h other ≡ node_at g other
   kept other apart = ap (λ z. node_at z other) removal.gone ∙ node_without g id other apart
@@ -128,18 +126,18 @@ module _ {g : GraphValue} {id : NodeId} {source : PortAt} {h : GraphValue} {port
   source_other : (port_named g source).node ≢ is.node.name
   source_other same =
       let (node, live) = some_in (node_at g source.node) is.live in
-      apart source.node node live is.other (ap name_of (sym live) ∙ same)
+      is.other (is.alone source.node (node, live, ap name_of (sym live) ∙ same))
 
   pub source_live : IsSome (node_at h source.node)
   source_live = subst IsSome (sym (kept source.node is.other)) is.live
 
   module _ (target : PortAt) (wired : map.get (by_names g).feeders (port_named g target) ≡ Some (port_named g port)) where
     feeds : map.get (by_names g).feeders (port_named g target) ≡ Some (first_port is.node.name)
-    feeds = wired ∙ ap Some first_named
+    feeds = wired ∙ ap Some (first_named g id is.node port is.at fed.first)
 
     apart_target : target.node ≢ id
     apart_target same =
-        target_other (by_names g) removal.typed is.node.name (port_named g source) (port_named g target) is.buffer is.fed feeds source_other (ap (λ other. name_of (node_at g other)) same ∙ ap name_of is.at)
+        target_other (by_names g) typed is.node.name (port_named g source) (port_named g target) is.buffer is.fed feeds source_other (ap (λ other. name_of (node_at g other)) same ∙ ap name_of is.at)
 
     pub target_live : IsSome (node_at g target.node) → IsSome (node_at h target.node)
     target_live = subst IsSome (sym (kept target.node apart_target))
@@ -149,14 +147,14 @@ module _ {g : GraphValue} {id : NodeId} {source : PortAt} {h : GraphValue} {port
         subst (λ z. CanWire z (port_named h source) (port_named h target)) (sym without)
         (subst (λ p. CanWire (without_node (by_names g) is.node.name) p (port_named h target)) (sym (port_kept source is.other))
         (subst (λ p. CanWire (without_node (by_names g) is.node.name) (port_named g source) p) (sym (port_kept target apart_target))
-        (can_join (by_names g) removal.typed is.node.name (port_named g source) (port_named g target) is.buffer is.fed feeds source_other)))
+        (can_join (by_names g) typed is.node.name (port_named g source) (port_named g target) is.buffer is.fed feeds source_other)))
 
     pub dropped : (k : GraphValue) → by_names k ≡ with_wire (by_names h) (port_named h source) (port_named h target) → IfSome (node_at g id) (λ node. Drops (by_names g) node.name (by_names k))
     dropped k joined =
         let same : by_names k ≡ with_wire (without_node (by_names g) is.node.name) (port_named g source) (port_named g target) =
         joined ∙ (λ i. with_wire (without i) (port_kept source is.other i) (port_kept target apart_target i)) in
         subst (λ found. IfSome found (λ node. Drops (by_names g) node.name (by_names k))) (sym is.at)
-        (drops (by_names g) removal.typed is.node.name (port_named g source) (port_named g target) is.buffer is.fed feeds source_other (by_names k) same)
+        (drops (by_names g) typed is.node.name (port_named g source) (port_named g target) is.buffer is.fed feeds source_other (by_names k) same)
 
     pub others_kept : (k : GraphValue) → k ≡ with_feeder h source target → (other : NodeId) → other ≢ id → node_at k other ≡ node_at g other
     others_kept k joined other apart = ap (λ z. node_at z other) joined ∙ kept other apart
@@ -177,15 +175,9 @@ module _ {g : GraphValue} {id : NodeId} {node : Node} {port : PortAt} (buffer : 
   is_buffer : IsBuffer (by_names g) node.name
   is_buffer = subst (λ there. IsSomeAnd there (λ body. IsBufferKind body.kind)) (sym found) (subst IsBufferKind (sym buffer.kind) tt)
 
-  is_first : port_named g port ≡ first_port node.name
-  is_first = ap (port_named g) buffer.first ∙ (λ i. record { node = name_of (buffer.at i); port = 1 })
-
-  live : IsSome (node_at g port.node)
-  live = ap (λ (p : PortAt). is_some (node_at g p.node)) buffer.first ∙ ap is_some buffer.at
-
   module _ (fed : Option PortAt) (names : IsSome (node_at g port.node) → option_map (port_named g) fed ≡ map.get (by_names g).feeders (port_named g port)) where
     feeder : map.get (by_names g).feeders (first_port node.name) ≡ option_map (port_named g) fed
-    feeder = sym (ap (map.get (by_names g).feeders) is_first) ∙ sym (names live)
+    feeder = sym (ap (map.get (by_names g).feeders) (first_named g id node port buffer.at buffer.first)) ∙ sym (names (first_live g id node port buffer.at buffer.first))
 
     -- the Buffer's input stands on a wire
     pub fed_some : fed ≢ None

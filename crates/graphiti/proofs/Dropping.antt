@@ -10,7 +10,8 @@ use Rattle.graph_core.specs.Name.{Name, Port, port_get}
 use Rattle.graph_core.specs.Kind.{Shape, ins, outs}
 use Rattle.graph_core.specs.Node.{Body}
 use Rattle.graph_core.specs.NamedGraph.{NamedGraph, IsTyped, IsWire, is_of, without_node}
-use Rattle.graphiti.specs.Stripped.{IsBufferKind, IsBuffer, first_port}
+use Rattle.module_sem.specs.Buffers.{first_port}
+use Rattle.graphiti.specs.Stripped.{IsBufferKind, IsBuffer}
 use Rattle.graphiti.specs.Strips.{Drops, Turn}
 use Rattle.graphiti.proofs.Lookups.{name_total, name_same, port_total, port_same, name_cases, port_cases, get_inserted, get_not_inserted, get_removed, get_not_removed, get_retained}
 
@@ -99,7 +100,10 @@ pub record Bypasses (g : NamedGraph) (b : Name) (h : NamedGraph) : Type 0 where
   pub wire_from : (p q : Port) → map.get h.feeders p ≡ Some q →
       (p.node ≢ b) × (q.node ≢ b) × ((map.get g.feeders p ≡ Some q) ⊎ ((map.get g.feeders p ≡ Some (first_port b)) × (q ≡ source)))
 
-neither : (a b : Bool) → not (a || b) ≡ true → (a ≡ false) × (b ≡ false)
+pub node_other : {g : NamedGraph} {b : Name} {h : NamedGraph} → Bypasses g b h → (name : Name) (body : Body) → map.get h.nodes name ≡ Some body → name ≢ b
+node_other {h = h} past name body found is = none-some body (sym past.node_gone ∙ ap (map.get h.nodes) (sym is) ∙ found)
+
+pub neither : (a b : Bool) → not (a || b) ≡ true → (a ≡ false) × (b ≡ false)
 neither true b e = absurd (true≢false (sym e))
 neither false true e = absurd (true≢false (sym e))
 neither false false e = (refl, refl)
@@ -107,7 +111,7 @@ neither false false e = (refl, refl)
 not_either : (a b : Bool) → a ≡ false → b ≡ false → not (a || b) ≡ true
 not_either a b e f = ap (λ t. not (t || b)) e ∙ ap not f
 
-found_if : {A : Type 0} (t : Bool) (o : Option A) (x : A) → cond t o None ≡ Some x → (t ≡ true) × (o ≡ Some x)
+pub found_if : {A : Type 0} (t : Bool) (o : Option A) (x : A) → cond t o None ≡ Some x → (t ≡ true) × (o ≡ Some x)
 found_if true o x e = (refl, e)
 found_if false o x e = absurd (none-some x e)
 
@@ -188,11 +192,8 @@ one_shape kind shape taken given is e f =
     same_Some taken given (sym e' ∙ f')
 
 module _ (g : NamedGraph) (typed : IsTyped g) (b : Name) (h : NamedGraph) (past : Bypasses g b h) where
-  stays_other : (name : Name) (body : Body) → map.get h.nodes name ≡ Some body → name ≢ b
-  stays_other name body found is = none-some body (sym past.node_gone ∙ ap (map.get h.nodes) (sym is) ∙ found)
-
   was_node : (name : Name) (body : Body) → map.get h.nodes name ≡ Some body → map.get g.nodes name ≡ Some body
-  was_node name body found = sym (past.node_kept name (stays_other name body found)) ∙ found
+  was_node name body found = sym (past.node_kept name (node_other past name body found)) ∙ found
 
   wire_past : (target : Port) → target.node ≢ b → map.get g.feeders target ≡ Some (first_port b) → IsWire h past.source target
   wire_past target other feeds =
@@ -237,7 +238,7 @@ module _ (g : NamedGraph) (typed : IsTyped g) (b : Name) (h : NamedGraph) (past 
       let (source, wired) = typed.inputs p body shape (was_node p.node body found) has in
       elim (name_cases source.node b) [
         | inl is ↦ (past.source, past.wire_moved p (wired ∙ ap Some (buffer_output g typed b past.buffer p source wired is)))
-        | inr other ↦ (source, past.wire_kept p source (stays_other p.node body found) other wired)
+        | inr other ↦ (source, past.wire_kept p source (node_other past p.node body found) other wired)
       ]
 
   outputs_after : (p : Port) (body : Body) (shape : Shape) → map.get h.nodes p.node ≡ Some body → port_get (outs body.kind) p.port ≡ Some shape → (target : Port) × (map.get h.feeders target ≡ Some p)
@@ -247,7 +248,7 @@ module _ (g : NamedGraph) (typed : IsTyped g) (b : Name) (h : NamedGraph) (past 
         | inl is ↦
             let first = buffer_input g typed b past.buffer target p wired is in
             (past.target, past.wire_moved past.target past.feeds ∙ sym past.fed ∙ ap (map.get g.feeders) (sym first) ∙ wired)
-        | inr other ↦ (target, past.wire_kept target p other (stays_other p.node body found) wired)
+        | inr other ↦ (target, past.wire_kept target p other (node_other past p.node body found) wired)
       ]
 
   -- only the Buffer's input is fed by what feeds it

@@ -1,15 +1,15 @@
 -- What is met backwards through Buffers, in a graph and without one of its Buffers.
 use Rattle.std.proofs.Common.{◌≡◌, ◌≢◌, ◌⊎◌, inl, inr, refl, sym, ap, subst, ◌∙◌, Some, Ordering, Less, Equal, Greater, is_lt, true≢false}
-use Rattle.std.proofs.lemmas.Option.{none-some, same_Some}
+use Rattle.std.proofs.lemmas.Option.{same_Some}
 use Rattle.std.specs.Ordering.{ordering_reverse}
 use Rattle.std.specs.Cmp.{tied_itself}
 use Rattle.std.specs.FinMap as map
 use Rattle.graph_core.specs.Name.{Name, Port, name_cmp}
-use Rattle.graph_core.specs.Node.{Body}
 use Rattle.graph_core.specs.NamedGraph.{NamedGraph}
-use Rattle.graphiti.specs.Stripped.{IsBuffer, first_port, Meets, Meets.feeds, Meets.beyond, IsLastOfRing, Stays, FeedsStripped, IsStripped}
+use Rattle.module_sem.specs.Buffers.{first_port}
+use Rattle.graphiti.specs.Stripped.{IsBuffer, Meets, Meets.feeds, Meets.beyond, IsLastOfRing, Stays, FeedsStripped, IsStripped}
 use Rattle.graphiti.proofs.Lookups.{name_total, name_same, name_cases}
-use Rattle.graphiti.proofs.Dropping.{Bypasses, same_buffer, buffer_at}
+use Rattle.graphiti.proofs.Dropping.{Bypasses, node_other, same_buffer, buffer_at}
 
 -- the output is the one that was sought, or meets it through its Buffer
 abbrev pub Reaches : NamedGraph → Port → Port → Type 0
@@ -55,11 +55,8 @@ abbrev pub LesserFeedThemselves : NamedGraph → Name → Type 0
 LesserFeedThemselves g b = (name : Name) → IsBuffer g name → name_cmp name b ≡ Less → FeedsItself g name
 
 module _ (g : NamedGraph) (b : Name) (h : NamedGraph) (past : Bypasses g b h) where
-  pub node_other : (name : Name) (body : Body) → map.get h.nodes name ≡ Some body → name ≢ b
-  node_other name body found is = none-some body (sym past.node_gone ∙ ap (map.get h.nodes) (sym is) ∙ found)
-
   pub buffer_other : (name : Name) → IsBuffer h name → name ≢ b
-  buffer_other name is = let at = buffer_at h name is in node_other name at.body at.is
+  buffer_other name is = let at = buffer_at h name is in node_other past name at.body at.is
 
   pub buffer_before : (name : Name) → IsBuffer h name → IsBuffer g name
   buffer_before name is = same_buffer h g name (past.node_kept name (buffer_other name is)) is
@@ -182,7 +179,7 @@ module _ (g : NamedGraph) (b : Name) (h : NamedGraph) (past : Bypasses g b h) wh
         record {
           nodes = λ name body. (
             λ found. let (was, stays) = (is.nodes name body).0 found in
-                let apart = node_other name body was in
+                let apart = node_other past name body was in
                 (sym (past.node_kept name apart) ∙ was, stays_before name apart stays),
             λ has. elim (name_cases name b) [
               | inl same ↦ absurd (goes name same has.1)

@@ -1,5 +1,6 @@
 -- The lines of the nodes of a small graph are read one after another.
 use Rattle.std.proofs.Common.{◌≡◌, inl, inr, ℕ, List, [], ◌++◌, flat_map, Some, None, refl, sym, ap, subst, ◌∙◌}
+use Rattle.std.proofs.lemmas.Option.{none-some}
 use Rattle.std.specs.FinMap as map
 use Rattle.graph_core.specs.Name.{Name, name_cmp, IsName}
 use Rattle.graph_core.specs.Kind.{KindOk}
@@ -11,8 +12,9 @@ use Rattle.graphiti.specs.SmallText.{IsSmall}
 use Rattle.graphiti.specs.SmallLine.{kind_of, node_at}
 use Rattle.graphiti.specs.Reading.{plain_body}
 use Rattle.graphiti.proofs.Lookups.{name_total, name_same}
-use Rattle.graphiti.proofs.SmallLines.{IsSmallNode, ReadsNode, node_at-node_line}
-use Rattle.graphiti.proofs.PartRead.{IsPartRead, IsAllRead, HasNext, same_answer, no_answer, read_cases}
+use Rattle.graphiti.proofs.SmallLines.{ReadsNode, node_at-node_line}
+use Rattle.graphiti.proofs.SmallEntries.{small_node}
+use Rattle.graphiti.proofs.PartRead.{IsPartRead, IsAllRead, HasNext, same_answer, read_cases}
 
 -- the nodes of a graph, of which some were read
 abbrev pub AreNodesRead : NamedGraph → List ℕ → NamedGraph → List ℕ → Type 0
@@ -25,19 +27,11 @@ pub record TakesNode (h : NamedGraph) (rest : List ℕ) (g : NamedGraph) (name :
   pub new : map.get g.nodes name ≡ None
   pub next : IsPartRead node_line h.nodes rest (map.insert g.nodes name (plain_body (kind_of small))) behind
 
-IsSmallNode-get : (h : NamedGraph) → IsSmall h → (name : Name) (body : Body) → map.get h.nodes name ≡ Some body → IsSmallNode name body
-IsSmallNode-get h small name body there = record {
-  is_name = small.names name body there;
-  kind = small.typed.kinds name body there;
-  one_field = small.one_field name body there;
-  kept = small.nothing_kept name body there;
-}
-
 -- what a front line says is what it was read as
 takes_next : (h : NamedGraph) (rest : List ℕ) (g : NamedGraph) (left : List ℕ) (name : Name) (small : SmallKind) (behind : List ℕ) → IsSmall h → node_at left ≡ Some (name, small, behind) →
     HasNext node_line h.nodes rest g.nodes left → TakesNode h rest g name small behind
 takes_next h rest g left name small behind is_small found next =
-    let node = IsSmallNode-get h is_small next.key next.value next.there in
+    let node = small_node h is_small next.key next.value next.there in
     let reads : ReadsNode next.key next.value next.behind = node_at-node_line next.key next.value node next.behind in
     let same : (next.key ≡ name) × (reads.0 ≡ small) × (next.behind ≡ behind) =
     same_answer next.key name reads.0 small next.behind behind (sym reads.2 ∙ ap node_at (sym next.left_is) ∙ found) in
@@ -57,7 +51,7 @@ takes_next h rest g left name small behind is_small found next =
 none_left : (h : NamedGraph) (rest : List ℕ) (g : NamedGraph) (left : List ℕ) (name : Name) (small : SmallKind) (behind : List ℕ) → node_at rest ≡ None → node_at left ≡ Some (name, small, behind) →
     IsAllRead h.nodes rest g.nodes left → TakesNode h rest g name small behind
 none_left h rest g left name small behind none found all =
-    absurd (no_answer (name, small, behind) (sym none ∙ ap node_at (sym all.left_is) ∙ found))
+    absurd (none-some (name, small, behind) (sym none ∙ ap node_at (sym all.left_is) ∙ found))
 
 pub takes_node : (h : NamedGraph) (rest : List ℕ) (g : NamedGraph) (left : List ℕ) (name : Name) (small : SmallKind) (behind : List ℕ) → IsSmall h → node_at rest ≡ None → AreNodesRead h rest g left →
     node_at left ≡ Some (name, small, behind) → TakesNode h rest g name small behind
@@ -69,8 +63,8 @@ takes_node h rest g left name small behind is_small none read found =
 
 no_next : (h : NamedGraph) (rest : List ℕ) (g : NamedGraph) (left : List ℕ) → IsSmall h → node_at left ≡ None → HasNext node_line h.nodes rest g.nodes left → IsAllRead h.nodes rest g.nodes left
 no_next h rest g left is_small none next =
-    let reads : ReadsNode next.key next.value next.behind = node_at-node_line next.key next.value (IsSmallNode-get h is_small next.key next.value next.there) next.behind in
-    absurd (no_answer (next.key, reads.0, next.behind) (sym none ∙ ap node_at next.left_is ∙ reads.2))
+    let reads : ReadsNode next.key next.value next.behind = node_at-node_line next.key next.value (small_node h is_small next.key next.value next.there) next.behind in
+    absurd (none-some (next.key, reads.0, next.behind) (sym none ∙ ap node_at next.left_is ∙ reads.2))
 
 -- where no node's line is at the front, all nodes are read
 pub nodes_end : (h : NamedGraph) (rest : List ℕ) (g : NamedGraph) (left : List ℕ) → IsSmall h → AreNodesRead h rest g left → node_at left ≡ None → IsAllRead h.nodes rest g.nodes left

@@ -1,5 +1,5 @@
 -- A small text is the text of one graph alone.
-use Rattle.std.proofs.Common.{◌≡◌, ℕ, List, [], ◌∷◌, ◌++◌, Option, Some, None, codes, refl, sym, ap, ap₂, ◌∙◌, subst, append_assoc, flat_map}
+use Rattle.std.proofs.Common.{◌≡◌, ℕ, List, [], ◌∷◌, ◌++◌, None, codes, refl, sym, ap, ap₂, ◌∙◌, subst, append_assoc, flat_map}
 use Rattle.std.specs.FinMap as map
 use Rattle.std.specs.List.{AllByRecursion}
 use Rattle.std.proofs.lemmas.List.{append_cancel_left}
@@ -10,6 +10,7 @@ use Rattle.graphiti.specs.CanonicalText.{node_line, wire_line, text_of}
 use Rattle.graphiti.specs.SmallText.{NamesOneGraph}
 use Rattle.graphiti.specs.SmallLine.{kind_of, node_at, wire_at}
 use Rattle.graphiti.proofs.SmallLines.{IsSmallNode, IsSmallWire, node_at-node_line, wire_at-wire_line, node_at-wire_line, node_at-end, wire_at-end}
+use Rattle.graphiti.proofs.PartRead.{same_answer}
 use Rattle.graphiti.proofs.SmallEntries.{small_nodes, small_wires}
 
 -- ---- lists of lines
@@ -39,12 +40,6 @@ IsNode node = IsSmallNode node.0 node.1
 abbrev NoNode : List ℕ → Type 0
 NoNode bytes = node_at bytes ≡ None
 
-same_read : {A B C : Type 0} (o : Option (A × B × C)) (a x : A) (b y : B) (c z : C) → o ≡ Some (a, b, c) → o ≡ Some (x, y, z) → (a ≡ x) × (b ≡ y) × (c ≡ z)
-same_read {A = A} {B = B} {C = C} o a x b y c z p q =
-    let both : ◌≡◌ {A = Option (A × B × C)} (Some (a, b, c)) (Some (x, y, z)) = sym p ∙ q in
-    let same : ◌≡◌ {A = A × B × C} (a, b, c) (x, y, z) = cc in
-    (ap (λ (t : A × B × C). t.0) same, ap (λ (t : A × B × C). t.1) same, ap (λ (t : A × B × C). t.2) same)
-
 same_body : (a b : Body) → a.kind ≡ b.kind → a.kept ≡ b.kept → a ≡ b
 same_body a b p q = λ i. record { kind = p i; kept = q i }
 
@@ -52,7 +47,7 @@ one_node : (name other : Name) (body second : Body) (r s : List ℕ) → IsSmall
 one_node name other body second r s p q e =
     let a = node_at-node_line name body p r in
     let b = node_at-node_line other second q s in
-    let same = same_read (node_at (node_line (name, body) ++ r)) name other a.0 b.0 r s a.2 (ap node_at e ∙ b.2) in
+    let same = same_answer name other a.0 b.0 r s (sym a.2 ∙ ap node_at e ∙ b.2) in
     let kinds : body.kind ≡ second.kind = sym a.1 ∙ ap kind_of same.1 ∙ b.1 in
     let bodies = same_body body second kinds (p.kept ∙ sym q.kept) in
     (ap₂ (λ (n : Name) (x : Body). (n, x)) same.0 bodies, same.2)
@@ -76,7 +71,7 @@ NoWire bytes = wire_at bytes ≡ None
 
 one_wire : (target other source second : Port) (r s : List ℕ) → IsSmallWire target source → IsSmallWire other second → wire_line (target, source) ++ r ≡ wire_line (other, second) ++ s → (◌≡◌ {A = Port × Port} (target, source) (other, second)) × (r ≡ s)
 one_wire target other source second r s p q e =
-    let same = same_read (wire_at (wire_line (target, source) ++ r)) source second target other r s (wire_at-wire_line target source p r) (ap wire_at e ∙ wire_at-wire_line other second q s) in
+    let same = same_answer source second target other r s (sym (wire_at-wire_line target source p r) ∙ ap wire_at e ∙ wire_at-wire_line other second q s) in
     (ap₂ (λ (t : Port) (o : Port). (t, o)) same.1 same.0, same.2)
 
 wire_stops : (target source : Port) (r : List ℕ) → IsSmallWire target source → NoWire (wire_line (target, source) ++ r) → ⊥

@@ -1,19 +1,14 @@
 -- Lines for the entries of a finite map, in order, are read from the front: a part of the map is made of those that were read.
 use Rattle.std.proofs.Common.{◌≡◌, ◌⊎◌, inl, inr, ℕ, List, [], ◌∷◌, ◌++◌, flat_map, Option, Some, None, Ordering, append_assoc, append-nil, sym, refl, ap, ◌∙◌, subst}
+use Rattle.std.proofs.lemmas.Option.{same_Some}
 use Rattle.std.specs.Cmp.{IsTotalOrder}
 use Rattle.std.specs.FinMap.{FinMap, IsAntisymmetric, entries, get, empty, insert, from_entries}
 use Rattle.graphiti.proofs.Entries.{from_entries-entries, get-entry, get-before_entry, from_entries-more, get-from_front}
 
 -- answers of a reader
 
-pub same_value : {A : Type 0} (x y : A) → ◌≡◌ {A = Option A} (Some x) (Some y) → x ≡ y
-same_value x y e = cc
-
 pub same_answer : {A B C : Type 0} (a a' : A) (b b' : B) (c c' : C) → ◌≡◌ {A = Option (A × B × C)} (Some (a, b, c)) (Some (a', b', c')) → (a ≡ a') × (b ≡ b') × (c ≡ c')
-same_answer a a' b b' c c' e = let parts = same_value (a, b, c) (a', b', c') e in (λ i. (parts i).0, λ i. (parts i).1, λ i. (parts i).2)
-
-pub no_answer : {A : Type 0} (x : A) → ◌≡◌ {A = Option A} None (Some x) → ⊥
-no_answer x e = absurd (cc)
+same_answer a a' b b' c c' e = let parts = same_Some (a, b, c) (a', b', c') e in (λ i. (parts i).0, λ i. (parts i).1, λ i. (parts i).2)
 
 -- the entries are cut: the lines of those behind are left, before the rest, and the part is made of those before
 pub record IsPartRead {K X : Type 0} {R : K → K → Ordering} (line : K × X → List ℕ) (whole : FinMap R X) (rest : List ℕ) (part : FinMap R X) (left : List ℕ) : Type 0 where

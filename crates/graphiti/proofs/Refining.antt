@@ -1,19 +1,20 @@
--- In no surrounding circuit does the stripped graph show anything that the graph does not, by the laws of circuits.
-use Rattle.std.proofs.Common.{◌≡◌, inl, inr, subst, List, [], ◌∷◌}
+-- The stripped graph against the graph, by the laws of circuits: what holds of a graph without one Buffer holds of the stripped graph.
+use Rattle.std.proofs.Common.{inl, inr, subst, List, [], ◌∷◌}
 use Rattle.std.specs.FinMap as map
 use Rattle.graph_core.specs.Name.{Name}
 use Rattle.graph_core.specs.NamedGraph.{NamedGraph, IsTyped}
 use Rattle.module_sem.specs.Circuit.{circuit_of}
 use Rattle.module_sem.specs.Refines.{Refines}
 use Rattle.module_sem.specs.Buffers.{IsWithoutBuffer}
-use Rattle.module_sem.specs.Laws.{RefinesItself, RefinesInSteps, CircuitIsTyped, GraphDropRefines}
+use Rattle.module_sem.specs.Laws.{RefinesItself, RefinesInSteps, CircuitIsTyped, GraphDropRefines, GraphPutRefines}
+use Rattle.graphiti.specs.Stripped.{IsStripped}
 use Rattle.graphiti.specs.Strips.{Drops, Turn, Turns}
-use Rattle.graphiti.specs.Behaviour.{StrippedRefines}
+use Rattle.graphiti.specs.Behaviour.{StrippedRefines, StrippedIsRefined}
 use Rattle.graphiti.proofs.Dropping.{buffer_at, turn_typed}
 use Rattle.graphiti.proofs.TurnsMade.{turns_end}
 use Rattle.graphiti.proofs.Stripping.{turns_strip, one_stripped}
 
-pub without_buffer : (g h : NamedGraph) (name : Name) → Drops g name h → IsWithoutBuffer h g name
+without_buffer : (g h : NamedGraph) (name : Name) → Drops g name h → IsWithoutBuffer h g name
 without_buffer g h name drop =
     let at = buffer_at g name drop.buffer in
     record {
@@ -29,24 +30,34 @@ without_buffer g h name drop =
       is = drop.after;
     }
 
-module _ (itself : RefinesItself) (in_steps : RefinesInSteps) (circuit_typed : CircuitIsTyped) (drop_refines : GraphDropRefines) where
-  same_refines : (g h : NamedGraph) → IsTyped g → g ≡ h → Refines (circuit_of h) (circuit_of g)
-  same_refines g h typed same = subst (λ z. Refines (circuit_of z) (circuit_of g)) same (itself (circuit_of g) (circuit_typed g typed))
+-- a relation that holds of a typed graph and itself and of a graph without one Buffer and the graph, and goes on from step to step
+module _ (R : NamedGraph → NamedGraph → Type 0) (itself : (g : NamedGraph) → IsTyped g → R g g) (in_steps : (h between g : NamedGraph) → R h between → R between g → R h g) (drop : (h g : NamedGraph) (b : Name) → IsTyped g → IsWithoutBuffer h g b → R h g) where
+  by_turn : (g h : NamedGraph) (name : Name) → IsTyped g → Turn g name h → R h g
+  by_turn g h name typed (inl stays) = subst (λ z. R z g) stays.1 (itself g typed)
+  by_turn g h name typed (inr dropped) = drop h g name typed (without_buffer g h name dropped)
 
-  turn_refines : (g h : NamedGraph) (name : Name) → IsTyped g → Turn g name h → Refines (circuit_of h) (circuit_of g)
-  turn_refines g h name typed (inl stays) = same_refines g h typed stays.1
-  turn_refines g h name typed (inr drop) = drop_refines h g name typed (without_buffer g h name drop)
-
-  turns_refine : (names : List Name) (g h : NamedGraph) → IsTyped g → Turns g names h → Refines (circuit_of h) (circuit_of g)
-  turns_refine [] g h typed same = same_refines g h typed same
-  turns_refine (name ∷ names) g h typed turns =
+  by_turns : (names : List Name) (g h : NamedGraph) → IsTyped g → Turns g names h → R h g
+  by_turns [] g h typed same = subst (λ z. R z g) same (itself g typed)
+  by_turns (name ∷ names) g h typed turns =
       let (between, turn, rest) = turns in
-      in_steps (circuit_of h) (circuit_of between) (circuit_of g)
-      (turns_refine names between h (turn_typed g between name typed turn) rest)
-      (turn_refines g between name typed turn)
+      in_steps h between g (by_turns names between h (turn_typed g between name typed turn) rest) (by_turn g between name typed turn)
 
-  pub stripped_refines : StrippedRefines
-  stripped_refines g h typed is =
+  -- holds of the stripped graph and the graph
+  pub by_stripping : (g h : NamedGraph) → IsTyped g → IsStripped g h → R h g
+  by_stripping g h typed is =
       let (k, turns) = turns_end g typed in
-      subst (λ z. Refines (circuit_of z) (circuit_of g)) (one_stripped g k h (turns_strip g k typed turns).0 is)
-      (turns_refine (map.keys g.nodes) g k typed turns)
+      subst (λ z. R z g) (one_stripped g k h (turns_strip g k typed turns).0 is) (by_turns (map.keys g.nodes) g k typed turns)
+
+pub stripped_refines : RefinesItself → RefinesInSteps → CircuitIsTyped → GraphDropRefines → StrippedRefines
+stripped_refines itself in_steps circuit_typed drop =
+    by_stripping (λ h g. Refines (circuit_of h) (circuit_of g))
+    (λ g typed. itself (circuit_of g) (circuit_typed g typed))
+    (λ h between g. in_steps (circuit_of h) (circuit_of between) (circuit_of g))
+    drop
+
+pub stripped_is_refined : RefinesItself → RefinesInSteps → CircuitIsTyped → GraphPutRefines → StrippedIsRefined
+stripped_is_refined itself in_steps circuit_typed put =
+    by_stripping (λ h g. Refines (circuit_of g) (circuit_of h))
+    (λ g typed. itself (circuit_of g) (circuit_typed g typed))
+    (λ h between g after before. in_steps (circuit_of g) (circuit_of between) (circuit_of h) before after)
+    put

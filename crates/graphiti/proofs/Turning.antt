@@ -1,13 +1,15 @@
 -- Each node has its turn, in the order of the names.
-use Rattle.std.proofs.Common.{◌≡◌, ◌⊎◌, inl, inr, refl, sym, ap, subst, ◌∙◌, cond, Bool, true, false, ◌&&◌, T, is_lt, List, [], ◌∷◌, map, Some, Ordering, Less, Equal, Greater}
+use Rattle.std.proofs.Common.{◌≡◌, ◌⊎◌, inl, inr, refl, sym, ap, subst, ◌∙◌, cond, T, List, [], ◌∷◌, map, Some, Less}
 use Rattle.std.proofs.lemmas.Option.{none-some, same_Some}
 use Rattle.std.specs.FinMap as fin
 use Rattle.std.specs.FinMap.{find, is_sorted}
 use Rattle.std.specs.FinMap.Entries.{below_all}
 use Rattle.graph_core.specs.Name.{Name, Port, name_cmp}
 use Rattle.graph_core.specs.NamedGraph.{NamedGraph, IsTyped}
-use Rattle.graphiti.specs.Stripped.{IsBuffer, first_port, Meets.feeds, IsLastOfRing, FeedsStripped, IsStripped}
+use Rattle.module_sem.specs.Buffers.{first_port}
+use Rattle.graphiti.specs.Stripped.{IsBuffer, Meets.feeds, IsLastOfRing, FeedsStripped, IsStripped}
 use Rattle.graphiti.specs.Strips.{StaysAtTurn, Turns}
+use Rattle.graphiti.proofs.EntryLists.{first, second, less}
 use Rattle.graphiti.proofs.Lookups.{name_total, name_same, name_cases, other_test}
 use Rattle.graphiti.proofs.Dropping.{Bypasses, buffer_at, buffer_cases, buffer_input, buffer_output, drops_bypasses, typed_after}
 use Rattle.graphiti.proofs.Meeting.{FeedsItself, LesserFeedThemselves, met_from, Reaches, itself_alone, not_less_itself, not_less_back, buffer_before, buffer_other, stripped_before}
@@ -20,19 +22,6 @@ IsAmong name (x ∷ names) = (name ≡ x) ⊎ IsAmong name names
 abbrev pub Rise : List Name → Type 0
 Rise [] = Unit {0}
 Rise (x ∷ names) = ((name : Name) → IsAmong name names → name_cmp x name ≡ Less) × Rise names
-
-first : (a b : Bool) → T (a && b) → T a
-first true b h = tt
-first false b h = h
-
-second : (a b : Bool) → T (a && b) → T b
-second true b h = h
-second false b h = absurd h
-
-less : (r : Ordering) → T (is_lt r) → r ≡ Less
-less Less h = refl
-less Equal h = absurd h
-less Greater h = absurd h
 
 module _ {X : Type 0} where
   found_among : (name : Name) (es : List (Name × X)) (x : X) → find name_cmp name es ≡ Some x → IsAmong name (map (λ e. e.0) es)

@@ -3,7 +3,8 @@ use Rattle.std.proofs.Common.{◌≡◌, inl, inr, refl, ap, ◌∙◌, List, []
 use Rattle.std.specs.FinMap as map
 use Rattle.graph_core.specs.Name.{Name, Port}
 use Rattle.graph_core.specs.NamedGraph.{NamedGraph, IsTyped, with_wire, without_node}
-use Rattle.graphiti.specs.Stripped.{IsBuffer, first_port}
+use Rattle.module_sem.specs.Buffers.{first_port}
+use Rattle.graphiti.specs.Stripped.{IsBuffer}
 use Rattle.graphiti.specs.Strips.{Turn, Turns, TurnsEnd}
 use Rattle.graphiti.proofs.Lookups.{name_cases}
 use Rattle.graphiti.proofs.Dropping.{buffer_cases, buffer_fed, buffer_feeds, buffer_output, turn_typed}

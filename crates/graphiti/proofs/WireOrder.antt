@@ -1,41 +1,17 @@
 -- Node by node the wires come in order.
 use Rattle.std.proofs.Common.{◌≡◌, ℕ, suc, ◌+◌, ◌<◌, ◌≤◌, cond, T, List, [], ◌∷◌, ◌++◌, flat_map, Option, Some, None, Ordering, Less, Equal, Greater, nat_cmp, is_eq, sym, refl, ap, ◌∙◌, subst, append_assoc, arith, lt-ltb, inl, inr, ⊎_elim, zero, ◌⊎◌, ◌==◌}
-use Rattle.std.specs.Cmp.{IsTotalOrder, then_total, on_total, nat_cmp_total, tied_itself}
-use Rattle.std.specs.Cmp.Lexicographic.{nat_list_cmp_total}
+use Rattle.std.specs.Cmp.{tied_itself}
 use Rattle.std.specs.Ordering.{ordering_then}
 use Rattle.std.specs.Option.{option_or}
 use Rattle.std.specs.FinMap as map
-use Rattle.std.specs.FinMap.{IsAntisymmetric, nat_cmp-IsAntisymmetric, slice_cmp-IsAntisymmetric}
 use Rattle.std.specs.FinMap.Entries.{find, is_sorted, below_all, same_entries}
 use Rattle.graph_core.specs.Name.{Name, Port, name_cmp, port_cmp, port_get}
 use Rattle.graph_core.specs.Kind.{Shape, ins}
 use Rattle.graph_core.specs.Node.{Body}
 use Rattle.graph_core.specs.NamedGraph.{NamedGraph, IsTyped}
 use Rattle.graphiti.specs.PrintedWires.{wire_of, wires_from, wires_into, WiresInOrder}
+use Rattle.graphiti.proofs.Lookups.{name_total, name_same, port_total, port_same}
 use Rattle.graphiti.proofs.EntryLists as lists
-
--- The orders of names and of ports
-
-pub name_total : IsTotalOrder name_cmp
-name_total = nat_list_cmp_total
-
-pub name_same : IsAntisymmetric name_cmp
-name_same = slice_cmp-IsAntisymmetric nat_cmp-IsAntisymmetric
-
-pub port_total : IsTotalOrder port_cmp
-port_total = then_total (on_total (λ p. p.node) name_total) (on_total (λ p. p.port) nat_cmp_total)
-
-level : (r s : Ordering) → ordering_then r s ≡ Equal → (r ≡ Equal) × (s ≡ Equal)
-level Less s e = absurd (cc)
-level Equal s e = (refl, e)
-level Greater s e = absurd (cc)
-
-pub port_same : IsAntisymmetric port_cmp
-port_same p q tied =
-    let parts = level (name_cmp p.node q.node) (nat_cmp p.port q.port) tied in
-    let node = name_same p.node q.node parts.0 in
-    let port = nat_cmp-IsAntisymmetric p.port q.port parts.1 in
-    λ i. record { node = node i; port = port i }
 
 abbrev port_of : Name → ℕ → Port
 port_of name number = record { node = name; port = number }

@@ -1,5 +1,5 @@
 -- What an answer of the program says of the words, of what was read and of what was written.
-use Rattle.std.specs.Prelude.{◌≡◌, ◌≢◌, ◌⊎◌, ℕ, ◌<◌, ◌≤◌, List, [], ◌∷◌, map, take, length, Option, Some, IfSome, codes, String, string_bytes}
+use Rattle.std.specs.Prelude.{◌≡◌, ℕ, ◌<◌, ◌≤◌, List, [], ◌∷◌, map, take, length, Option, IfSome, codes, String, string_bytes}
 use Rattle.std.specs.declared.alloc.Global.{Global}
 use Rattle.gx_base.specs.Stream.{before, after}
 use Rattle.graph_core.specs.NamedGraph.{NamedGraph}

@@ -16,6 +16,10 @@ StrippedTyped = (g h : NamedGraph) → IsTyped g → IsStripped g h → IsTyped 
 abbrev pub StrippedRefines : Type 0
 StrippedRefines = (g h : NamedGraph) → IsTyped g → IsStripped g h → Refines (circuit_of h) (circuit_of g)
 
+-- nor the graph anything that the stripped graph does not
+abbrev pub StrippedIsRefined : Type 0
+StrippedIsRefined = (g h : NamedGraph) → IsTyped g → IsStripped g h → Refines (circuit_of g) (circuit_of h)
+
 -- what graph g drains, by itself, graph h drains to the same outputs
 abbrev pub KeepsDrains : NamedGraph → NamedGraph → Type 0
 KeepsDrains h g = (ins outs : Name → List Token) → Drains (circuit_of g) ins outs → Drains (circuit_of h) ins outs

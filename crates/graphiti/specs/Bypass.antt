@@ -4,15 +4,15 @@ use Rattle.std.specs.FinMap as map
 use Rattle.graph_core.specs.declared.node.Node.{Node}
 use Rattle.graph_core.specs.declared.place.NodeId.{NodeId}
 use Rattle.graph_core.specs.declared.place.PortAt.{PortAt}
-use Rattle.graph_core.specs.Name.{IsName}
-use Rattle.graph_core.specs.GraphValue.{GraphValue, node_at, by_names, port_named}
-use Rattle.graphiti.specs.Stripped.{IsBuffer, first_port}
+use Rattle.graph_core.specs.GraphValue.{GraphValue, HasName, node_at, by_names, port_named}
+use Rattle.module_sem.specs.Buffers.{first_port}
+use Rattle.graphiti.specs.Stripped.{IsBuffer}
 
--- the node of this id is a Buffer, and this output of another node feeds it
+-- the node of this id is a Buffer with a name of its own, and this output of another node feeds it
 pub record IsFedBuffer (g : GraphValue) (id : NodeId) (source : PortAt) : Type 0 where
   pub node : Node
   pub at : node_at g id ≡ Some node
-  pub right : IsName node.name
+  pub alone : (other : NodeId) → HasName g other node.name → other ≡ id
   pub buffer : IsBuffer (by_names g) node.name
   pub live : IsSome (node_at g source.node)
   pub fed : map.get (by_names g).feeders (first_port node.name) ≡ Some (port_named g source)

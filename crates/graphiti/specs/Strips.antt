@@ -3,7 +3,8 @@ use Rattle.std.specs.Prelude.{◌≡◌, ◌≢◌, ◌⊎◌, List, [], ◌∷�
 use Rattle.std.specs.FinMap as map
 use Rattle.graph_core.specs.Name.{Name, Port}
 use Rattle.graph_core.specs.NamedGraph.{NamedGraph, IsTyped, with_wire, without_node}
-use Rattle.graphiti.specs.Stripped.{IsBuffer, first_port, IsStripped}
+use Rattle.module_sem.specs.Buffers.{first_port}
+use Rattle.graphiti.specs.Stripped.{IsBuffer, IsStripped}
 
 -- without a Buffer that is not wired to itself, what fed it feeds what it fed
 pub record Drops (g : NamedGraph) (name : Name) (h : NamedGraph) : Type 0 where

@@ -2,7 +2,7 @@
 ghost use Rattle.graphiti.specs.SmallText.{NamesOneGraph};
 ghost use Rattle.graphiti.specs.Stripped.{HasStripped, IsOneStripped};
 ghost use Rattle.graphiti.specs.Strips.{TurnsEnd, TurnsStrip};
-ghost use Rattle.graphiti.specs.Behaviour.{StrippedDrains, StrippedRefines, StrippedTyped};
+ghost use Rattle.graphiti.specs.Behaviour.{StrippedDrains, StrippedIsRefined, StrippedRefines, StrippedTyped};
 
 use module_sem::{
     buffer_keeps_drains, graph_buffer_shows_nothing, graph_typed_as_circuit, refines_in_steps,
@@ -26,10 +26,11 @@ pub fn turns_strip()
     ensures strip { TurnsStrip }
 {}
 
-/// The stripped graph of a typed graph is typed, and in no surrounding circuit shows anything that the graph does not.
+/// The stripped graph of a typed graph is typed, and in each surrounding circuit shows what the graph shows, no more and no less.
 pub fn stripped_refines()
     ensures typed { StrippedTyped }
     ensures refines { StrippedRefines }
+    ensures refined { StrippedIsRefined }
 {
     refines_itself();
     refines_in_steps();

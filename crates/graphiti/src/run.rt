@@ -26,7 +26,7 @@ pub fn run<S: Source, O: Sink, E: Sink>(
     out: &mut O,
     err: &mut E,
 ) -> Status
-    // The input was a small text, and `out` took the text of its stripped graph, all of it and nothing else.
+    // The input was a small text, and `out` took the text of its stripped graph, all of it and nothing else; that graph refines the one read.
     ensures done { result ≡ Status.Done → IsStrip words.now
         × WritesAnswer (S.left src.old) (S.left src.new) (O.taken out.old) (O.taken out.new) }
 

@@ -81,10 +81,11 @@ fn bypass(g: &mut Graph, id: NodeId, source: PortAt) -> Result<(), NoMemory>
     ensures dropped { OnOk result (IfSome (node_at g.old id) (λ node. Drops (by_names g.old) node.name (by_names g.new))) }
     ensures others { OnOk result ((other : NodeId) → other ≢ id → node_at g.new other ≡ node_at g.old other) }
 {
-    let fed = g.wire_from(first_port(id));
-    let _ = g.remove_node(id);
     // Each output of a typed graph stands on a wire.
-    let Some(target) = fed else { unreachable!() };
+    let Some(target) = g.wire_from(first_port(id)) else {
+        unreachable!()
+    };
+    let _ = g.remove_node(id);
     match g.add_wire(source, target) {
         Ok(()) => Ok(()),
         Err(AddWire::NoMemory) => Err(NoMemory),
