@@ -1,0 +1,16 @@
+pub mod Tokens
+pub mod Lexical
+pub mod Grammar
+pub mod Documents
+pub mod Scanner
+pub mod Machine
+pub mod Reading
+pub mod Printing
+pub mod Stream
+pub mod Blanks
+pub mod Skip
+pub mod Laws
+pub mod States
+pub mod Keywords
+pub mod Scans
+pub mod Readers
