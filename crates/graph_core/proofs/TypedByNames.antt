@@ -40,7 +40,7 @@ module _ (g : GraphValue) (ok : IsGraph g) where
       let there = node_behind g name body found in
       subst (λ (b : Body). KindOk b.kind) there.is_body (ok.nodes there.id there.node there.live).kind
 
-  wire_typed : (target source : Port) → map.get (by_names g).feeders target ≡ Some source → IsWire (by_names g) source target
+  pub wire_typed : (target source : Port) → map.get (by_names g).feeders target ≡ Some source → IsWire (by_names g) source target
   wire_typed target source found =
       let wire = wire_behind g target source found in
       let ends = wire_ends g ok wire.to wire.from wire.wired in

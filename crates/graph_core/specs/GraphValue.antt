@@ -1,5 +1,6 @@
 -- A graph by slots: what its calls see, and the graph by names that it stands for.
 use Rattle.std.specs.Prelude.{◌≡◌, ℕ, Bool, false, not, ◌||◌, ◌&&◌, ◌==◌, List, [], ◌∷◌, ◌++◌, length, map, Option, Some, None, slice_get, slice_set}
+use Rattle.std.specs.Option.{option_map}
 use Rattle.std.specs.List.{list_any}
 use Rattle.std.specs.FinMap as map
 use Rattle.port_types.specs.declared.side.Side.{Side}
@@ -39,6 +40,10 @@ shape_at g side p = shape_of (node_at g p.node) side p.port
 abbrev pub named : Node → Name × Body
 named node = (node.name, body_of node)
 
+-- the live node of an id, by its name
+abbrev pub named_at : GraphValue → NodeId → Option (Name × Body)
+named_at g id = option_map named (node_at g id)
+
 abbrev pub named_nodes : List (Option Node) → List (Name × Body)
 named_nodes [] = []
 named_nodes (None ∷ slots) = named_nodes slots
@@ -62,6 +67,10 @@ by_names g =
       nodes = map.from_entries (named_nodes g.slots);
       feeders = map.from_entries (map (named_wire g) (map.entries g.feeders));
     }
+
+-- the ids are those of the nodes in byte order of their names
+abbrev pub AreInOrder : GraphValue → List NodeId → Type 0
+AreInOrder g ids = map (named_at g) ids ≡ map Some (map.entries (by_names g).nodes)
 
 -- What the calls say
 

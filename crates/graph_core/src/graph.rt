@@ -3,8 +3,8 @@ ghost use Rattle.std.specs.Option.{option_copied, option_map};
 ghost use Rattle.std.specs.FinMap as map_of;
 ghost use Rattle.graph_core.specs.Name.{IsName, Port};
 ghost use Rattle.graph_core.specs.Node.{NodeOk, body_of};
-ghost use Rattle.graph_core.specs.NamedGraph.{CanWire, IsTyped, no_graph, with_node, with_wire, without_node};
-ghost use Rattle.graph_core.specs.GraphValue.{by_names, node_at, named, next_id, port_named, shape_at, HasName, with_slot, with_feeder, without_slot};
+ghost use Rattle.graph_core.specs.NamedGraph.{CanWire, IsTyped, IsWire, no_graph, with_node, with_wire, without_node};
+ghost use Rattle.graph_core.specs.GraphValue.{AreInOrder, by_names, node_at, next_id, port_named, shape_at, HasName, with_slot, with_feeder, without_slot};
 ghost use Rattle.graph_core.specs.Wiring.{wire_fault, IsWireFault, IsFree, IsFirstOpen};
 ghost use Rattle.graph_core.specs.OpenPorts.{IsClosed, IsFirstOpenAt, AreWired, IsFirstFree};
 
@@ -203,7 +203,10 @@ impl Graph {
 
     /// The ids of the live nodes in the byte order of their names. The only error is want of memory.
     pub fn by_name(&self, alloc: Global) -> Result<Vec<NodeId>, NoMemory>
-        ensures { IfOk result (λ ids. map (λ id. option_map named (node_at self.now id)) ids.items ≡ map Some (map_of.entries (by_names self.now).nodes)) }
+        ensures order { IfOk result (λ ids. AreInOrder self.now ids.items) }
+
+        // Each wire by names joins an output and an input of nodes of the graph.
+        ensures wires { (target source : Port) → map_of.get (by_names self.now).feeders target ≡ Some source → IsWire (by_names self.now) source target }
     {
         ids_by_name(alloc, &self.nodes)
     }

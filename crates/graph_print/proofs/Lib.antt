@@ -1,0 +1,10 @@
+pub mod Orders
+pub mod EntryLists
+pub mod WireOrder
+pub mod WiresInto
+pub mod WholeText
+pub mod Pairs
+pub mod Ports
+pub mod KeptOrder
+pub mod Escapes
+pub mod Keys
