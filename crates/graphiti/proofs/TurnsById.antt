@@ -10,7 +10,7 @@ use Rattle.graph_core.specs.Node.{Body}
 use Rattle.graph_core.specs.NamedGraph.{NamedGraph, IsTyped}
 use Rattle.graph_core.specs.GraphValue.{GraphValue, HasName, node_at, named, by_names}
 use Rattle.graphiti.specs.Strips.{Turn, Turns}
-use Rattle.graphiti.specs.PrintedGraph.{AreInOrder}
+use Rattle.graph_core.specs.GraphValue.{AreInOrder}
 use Rattle.graphiti.proofs.Dropping.{turn_typed}
 use Rattle.graphiti.proofs.Meeting.{not_less_itself}
 use Rattle.graphiti.proofs.Turning.{IsAmong, Rise, keys_rise}

@@ -1,12 +1,10 @@
-pub mod CanonicalText
-pub mod SmallText
 pub mod Stripped
-pub mod SmallLine
 pub mod Strips
 pub mod Behaviour
 pub mod Bypass
-pub mod PrintedWires
-pub mod PrintedGraph
 pub mod Status
+pub mod Words
+pub mod Plain
+pub mod PlainParts
+pub mod Input
 pub mod Answer
-pub mod Reading

@@ -1,5 +1,5 @@
 //! Laws of the definitions that the contract of `run` speaks of.
-ghost use Rattle.graphiti.specs.SmallText.{NamesOneGraph};
+ghost use Rattle.graphiti.specs.Plain.{PlainIsOneGraph};
 ghost use Rattle.graphiti.specs.Stripped.{HasStripped, IsOneStripped};
 ghost use Rattle.graphiti.specs.Strips.{TurnsEnd, TurnsStrip};
 ghost use Rattle.graphiti.specs.Behaviour.{StrippedDrains, StrippedIsRefined, StrippedRefines, StrippedTyped};
@@ -9,9 +9,9 @@ use module_sem::{
     refines_itself,
 };
 
-/// A small text is the text of one graph alone.
-pub fn names_one_graph()
-    ensures { NamesOneGraph }
+/// A plain document is one graph alone.
+pub fn plain_is_one_graph()
+    ensures { PlainIsOneGraph }
 {}
 
 /// A typed graph has one stripped graph.

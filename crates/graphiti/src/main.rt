@@ -2,17 +2,16 @@
 //! All that it does is `run`; here the real streams are made and the status is passed on.
 #![tactic(auto)]
 
+mod input;
 mod laws;
-mod lines;
-mod lines_out;
-mod printer;
-mod reader;
+mod line;
+mod plain;
 mod run;
-mod small_text;
 mod status;
 mod strip;
 #[cfg(test)]
 mod tests;
+mod words;
 
 use gx_base::{StdSink, StdSource};
 use run::run;
@@ -24,13 +23,13 @@ fn main(rt: HostRuntime) -> ExitCode {
     let mut source = StdSource::new(rt.stdin());
     let mut out = StdSink::new(rt.stdout());
     let mut err = StdSink::new(rt.stderr());
-    let words = words(&rt);
+    let words = given_words(&rt);
     let status = run(rt.alloc(), &words, &mut source, &mut out, &mut err);
     ExitCode::from(status.number())
 }
 
 /// The words of the command line without the program's name; none where they cannot be told, as words that are not UTF-8.
-fn words(rt: &(impl Env + AllocGlobal)) -> Vec<String> {
+fn given_words(rt: &(impl Env + AllocGlobal)) -> Vec<String> {
     match env::args(rt) {
         Ok(mut words) => {
             let _ = words.next();

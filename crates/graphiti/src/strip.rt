@@ -9,7 +9,7 @@ ghost use Rattle.graphiti.specs.Behaviour.{KeepsDrains};
 ghost use Rattle.graphiti.specs.Stripped.{IsStripped};
 ghost use Rattle.graphiti.specs.Strips.{Drops, StaysAtTurn, Turn, Turns};
 ghost use Rattle.graphiti.specs.Bypass.{IsFedBuffer};
-ghost use Rattle.graphiti.specs.PrintedGraph.{AreInOrder};
+ghost use Rattle.graph_core.specs.GraphValue.{AreInOrder};
 
 use crate::laws::{stripped_drains, stripped_refines};
 use graph_core::{AddWire, Graph, Kind, NodeId, PortAt};

@@ -1,6 +1,8 @@
 //! The answers of `run` over sources and sinks in memory.
+use crate::line::write_line;
 use crate::run::run;
 use crate::status::Status;
+use crate::words::{Command, command_of};
 use gx_base::{MemSink, MemSource};
 use std::alloc::{AllocError, Global};
 use std::fmt::Write;
@@ -98,6 +100,14 @@ struct Outcome {
     err: Vec<u8>,
 }
 
+fn owned_words(alloc: Global, words: &[&str]) -> Result<Vec<String>, Fail> {
+    let mut owned = Vec::new(alloc);
+    for word in words {
+        owned.push(String::from_str(alloc, word)?)?;
+    }
+    Ok(owned)
+}
+
 fn run_in(
     alloc: Global,
     setting: Setting<'_>,
@@ -105,10 +115,7 @@ fn run_in(
     input: &[u8],
 ) -> Result<Outcome, Fail> {
     let piece = setting.piece.max(1);
-    let mut owned = Vec::new(alloc);
-    for word in words {
-        owned.push(String::from_str(alloc, word)?)?;
-    }
+    let owned = owned_words(alloc, words)?;
     let input = Vec::from_slice(alloc, input)?;
     let reads = Vec::from_slice(alloc, setting.failing_reads)?;
     let writes = Vec::from_slice(alloc, setting.failing_writes)?;
@@ -147,59 +154,174 @@ fn small_graphs_are_stripped_in_any_pieces(rt: HostRuntime) -> Result<(), Fail> 
     Ok(())
 }
 
+/// The outcomes of a run that would fail where it read.
+fn run_unread(alloc: Global, words: &[&str]) -> Result<Outcome, Fail> {
+    let setting = Setting {
+        failing_reads: &[1],
+        ..CALM
+    };
+    run_in(alloc, setting, words, EMPTY.as_bytes())
+}
+
 #[test]
-fn other_words_and_other_texts_are_not_yet_taken(rt: HostRuntime) -> Result<(), Fail> {
-    let rows: [(&[&str], &[u8]); 16] = [
-        (&[], EMPTY.as_bytes()),
-        (&["frob"], EMPTY.as_bytes()),
-        (&["strip", "x"], EMPTY.as_bytes()),
-        (&["Strip"], EMPTY.as_bytes()),
-        (&["--", "strip"], EMPTY.as_bytes()),
-        (&["strip"], b""),
-        (&["strip"], b"digraph G {\n}"),
-        (&["strip"], b"digraph G {\n}\n\n"),
-        (&["strip"], b"digraph G {}\n"),
-        // nodes out of order
-        (
-            &["strip"],
-            b"digraph G {\n  \"z\" [type = \"Exit\", in = \"in1:8\"];\n  \"a\" [type = \"Entry\", out = \"out1:8\"];\n  \"a\" -> \"z\" [from = \"out1\", to = \"in1\"];\n}\n",
-        ),
-        // a name twice
-        (
-            &["strip"],
-            b"digraph G {\n  \"s\" [type = \"Buffer\", in = \"in1:8\", out = \"out1:8\"];\n  \"s\" [type = \"Buffer\", in = \"in1:8\", out = \"out1:8\"];\n  \"s\" -> \"s\" [from = \"out1\", to = \"in1\"];\n}\n",
-        ),
-        // an open port
-        (
-            &["strip"],
-            b"digraph G {\n  \"a\" [type = \"Entry\", out = \"out1:8\"];\n}\n",
-        ),
-        // two shapes
-        (
-            &["strip"],
-            b"digraph G {\n  \"a\" [type = \"Entry\", out = \"out1:8\"];\n  \"z\" [type = \"Exit\", in = \"in1:9\"];\n  \"a\" -> \"z\" [from = \"out1\", to = \"in1\"];\n}\n",
-        ),
-        // a width past 64
-        (
-            &["strip"],
-            b"digraph G {\n  \"s\" [type = \"Buffer\", in = \"in1:65\", out = \"out1:65\"];\n  \"s\" -> \"s\" [from = \"out1\", to = \"in1\"];\n}\n",
-        ),
-        // a tab in a name
-        (
-            &["strip"],
-            b"digraph G {\n  \"s\t\" [type = \"Buffer\", in = \"in1:8\", out = \"out1:8\"];\n  \"s\t\" -> \"s\t\" [from = \"out1\", to = \"in1\"];\n}\n",
-        ),
-        // a name that is not UTF-8
-        (
-            &["strip"],
-            b"digraph G {\n  \"s\xff\" [type = \"Buffer\", in = \"in1:8\", out = \"out1:8\"];\n  \"s\xff\" -> \"s\xff\" [from = \"out1\", to = \"in1\"];\n}\n",
-        ),
+fn wrong_words_are_told_before_anything_is_read(rt: HostRuntime) -> Result<(), Fail> {
+    let rows: [&[&str]; 10] = [
+        &[],
+        &["frob"],
+        &["Strip"],
+        &["strip", "x"],
+        &["print", "5"],
+        &["sim", "10000001"],
+        &["gen", "0"],
+        &["gen"],
+        &["--"],
+        &["--", "--", "print"],
     ];
-    for (words, input) in rows {
-        let outcome = run_in(rt.alloc(), CALM, words, input)?;
+    for words in rows {
+        let outcome = run_unread(rt.alloc(), words)?;
+        assert_eq!(rt; outcome.status, Status::Usage, "{words:?}");
+        assert_eq!(rt; outcome.out.len(), 0);
+        let line =
+            b"graphiti: usage: print, strip, gather, unfold, rewrite, trace, loops, sim [LIMIT], check, gen N\n".as_slice();
+        assert_eq!(rt; outcome.err.as_slice(), line);
+    }
+    Ok(())
+}
+
+#[test]
+fn commands_that_do_not_run_yet_read_nothing(rt: HostRuntime) -> Result<(), Fail> {
+    let rows: [&[&str]; 5] = [
+        &["--", "gather"],
+        &["rewrite"],
+        &["sim"],
+        &["sim", "10000000"],
+        &["gen", "2000"],
+    ];
+    for words in rows {
+        let outcome = run_unread(rt.alloc(), words)?;
         assert_eq!(rt; outcome.status, Status::NotYet, "{words:?}");
         assert_eq!(rt; outcome.out.len(), 0);
         assert_eq!(rt; outcome.err.as_slice(), b"graphiti: not yet\n".as_slice());
+    }
+    Ok(())
+}
+
+const LOOSE: &str = "Digraph { // c
+\"b\" [type=Buffer in=\"in1:8\"; out=\"out1:8\" delay=0.5,]
+a [type=\"Entry\", out=\"out1:8\"] ; z[type=Exit,in=\"in1:8\"]
+a->\"b\"[to=in1 from=out1 color=red]; \"b\"->z [from=out1][to=in1]
+}
+";
+
+const LOOSE_PRINTED: &str = "digraph G {
+  \"a\" [type = \"Entry\", out = \"out1:8\"];
+  \"b\" [type = \"Buffer\", in = \"in1:8\", out = \"out1:8\", delay = \"0.5\"];
+  \"z\" [type = \"Exit\", in = \"in1:8\"];
+  \"a\" -> \"b\" [from = \"out1\", to = \"in1\"];
+  \"b\" -> \"z\" [from = \"out1\", to = \"in1\"];
+}
+";
+
+const LOOSE_STRIPPED: &str = "digraph G {
+  \"a\" [type = \"Entry\", out = \"out1:8\"];
+  \"z\" [type = \"Exit\", in = \"in1:8\"];
+  \"a\" -> \"z\" [from = \"out1\", to = \"in1\"];
+}
+";
+
+/// The last pair of a key counts, a subgraph's nodes are the document's, and a default is dropped.
+const SPREAD: &str = "# a line
+digraph \"x\" { node [in = \"in9:9\"]
+subgraph s { z [type=Entry, type=Exit, in=\"in1:8\" k=1 k=2]; { a [type=Entry out=\"out1:8\"] } } rank = same
+a -> z [from=out2 from=out1 to=in1] }
+/* behind */ // it";
+
+const SPREAD_PRINTED: &str = "digraph G {
+  \"a\" [type = \"Entry\", out = \"out1:8\"];
+  \"z\" [type = \"Exit\", in = \"in1:8\", k = \"2\"];
+  \"a\" -> \"z\" [from = \"out1\", to = \"in1\"];
+}
+";
+
+#[test]
+fn documents_are_read_in_any_spelling(rt: HostRuntime) -> Result<(), Fail> {
+    let rows = [
+        ("print", LOOSE, LOOSE_PRINTED),
+        ("strip", LOOSE, LOOSE_STRIPPED),
+        ("print", LOOSE_PRINTED, LOOSE_PRINTED),
+        ("print", SPREAD, SPREAD_PRINTED),
+        ("strip", SPREAD, SPREAD_PRINTED),
+        ("print", CHAIN, CHAIN),
+        ("print", NAMED, NAMED),
+        ("print", "digraph G {}", EMPTY),
+        ("strip", "digraph G {\n}\n\n", EMPTY),
+    ];
+    for (command, input, answer) in rows {
+        for piece in [1, 7, 4096] {
+            let setting = Setting { piece, ..CALM };
+            let outcome = run_in(rt.alloc(), setting, &["--", command], input.as_bytes())?;
+            assert_eq!(rt; outcome.status, Status::Done, "{command} {input}");
+            assert_eq!(rt;
+                outcome.out.as_slice(),
+                answer.as_bytes(),
+                "{command} {input}"
+            );
+            assert_eq!(rt; outcome.err.len(), 0);
+        }
+    }
+    Ok(())
+}
+
+#[test]
+fn what_is_no_document_has_its_byte(rt: HostRuntime) -> Result<(), Fail> {
+    let rows: [(&[u8], usize); 8] = [
+        (b"", 0),
+        (b"digraph G { \"a\" [type = \"Sou", 24),
+        (b"digraph G {} digraph H {}", 13),
+        (b"digraph G {", 11),
+        (b"digraph G {} /* x", 13),
+        (b"graph G {}", 0),
+        (b"digraph G { a -> b -> c }", 19),
+        // a name that is not UTF-8
+        (
+            b"digraph G {\n  \"s\xff\" [type = \"Buffer\", in = \"in1:8\", out = \"out1:8\"];\n  \"s\xff\" -> \"s\xff\" [from = \"out1\", to = \"in1\"];\n}\n",
+            14,
+        ),
+    ];
+    for (input, at) in rows {
+        for command in ["print", "strip"] {
+            let outcome = run_in(rt.alloc(), CALM, &[command], input)?;
+            assert_eq!(rt; outcome.status, Status::Syntax(at), "{input:?}");
+            assert_eq!(rt; outcome.out.len(), 0);
+        }
+    }
+    Ok(())
+}
+
+#[test]
+fn documents_that_are_not_plain_are_not_yet_taken(rt: HostRuntime) -> Result<(), Fail> {
+    let rows: [&[u8]; 7] = [
+        // a name twice
+        b"digraph G {\n  \"s\" [type = \"Buffer\", in = \"in1:8\", out = \"out1:8\"];\n  \"s\" [type = \"Buffer\", in = \"in1:8\", out = \"out1:8\"];\n  \"s\" -> \"s\" [from = \"out1\", to = \"in1\"];\n}\n",
+        // an open port
+        b"digraph G {\n  \"a\" [type = \"Entry\", out = \"out1:8\"];\n}\n",
+        // two shapes
+        b"digraph G {\n  \"a\" [type = \"Entry\", out = \"out1:8\"];\n  \"z\" [type = \"Exit\", in = \"in1:9\"];\n  \"a\" -> \"z\" [from = \"out1\", to = \"in1\"];\n}\n",
+        // a width past 64
+        b"digraph G {\n  \"s\" [type = \"Buffer\", in = \"in1:65\", out = \"out1:65\"];\n  \"s\" -> \"s\" [from = \"out1\", to = \"in1\"];\n}\n",
+        // a tab in a name
+        b"digraph G {\n  \"s\t\" [type = \"Buffer\", in = \"in1:8\", out = \"out1:8\"];\n  \"s\t\" -> \"s\t\" [from = \"out1\", to = \"in1\"];\n}\n",
+        // a type of no kind, and a node that only an edge names
+        b"digraph G { a [type = Source, out = \"out1:8\"] }",
+        b"digraph G { a [type = Entry, out = \"out1:8\"] a -> z [from = out1, to = in1] }",
+    ];
+    for input in rows {
+        for command in ["print", "strip"] {
+            let outcome = run_in(rt.alloc(), CALM, &[command], input)?;
+            assert_eq!(rt; outcome.status, Status::NotYet, "{input:?}");
+            assert_eq!(rt; outcome.out.len(), 0);
+            assert_eq!(rt; outcome.err.as_slice(), b"graphiti: not yet\n".as_slice());
+        }
     }
     Ok(())
 }
@@ -256,7 +378,7 @@ fn a_fault_of_the_error_stream_changes_no_status(rt: HostRuntime) -> Result<(), 
     let outcome = run_in(rt.alloc(), setting, &["strip"], CHAIN.as_bytes())?;
     assert_eq!(rt; outcome.status, Status::Done);
     let outcome = run_in(rt.alloc(), setting, &["frob"], CHAIN.as_bytes())?;
-    assert_eq!(rt; outcome.status, Status::NotYet);
+    assert_eq!(rt; outcome.status, Status::Usage);
     assert_eq!(rt; outcome.err.len(), 0);
     let setting = Setting {
         piece: 4,
@@ -264,7 +386,7 @@ fn a_fault_of_the_error_stream_changes_no_status(rt: HostRuntime) -> Result<(), 
         ..CALM
     };
     let outcome = run_in(rt.alloc(), setting, &["frob"], CHAIN.as_bytes())?;
-    assert_eq!(rt; outcome.status, Status::NotYet);
+    assert_eq!(rt; outcome.status, Status::Usage);
     assert_eq!(rt; outcome.err.as_slice(), b"grap".as_slice());
     Ok(())
 }
@@ -355,7 +477,118 @@ fn an_input_past_the_limit_is_too_long(rt: HostRuntime) -> Result<(), Fail> {
     let line = b"graphiti: input longer than 16777216 bytes\n".as_slice();
     assert_eq!(rt; outcome.err.as_slice(), line);
     let outcome = run_in(rt.alloc(), CALM, &["strip"], &input[1..])?;
-    assert_eq!(rt; outcome.status, Status::NotYet);
+    assert_eq!(rt; outcome.status, Status::Syntax(16_777_216));
+    Ok(())
+}
+
+/// What the line of a status leaves in a sink.
+fn line_in(alloc: Global, status: Status, piece: usize, failing: &[u64]) -> Result<Vec<u8>, Fail> {
+    let failing = Vec::from_slice(alloc, failing)?;
+    let mut err = MemSink::new(alloc, piece.max(1), ROOM, failing)?;
+    write_line(&mut err, status);
+    Ok(Vec::from_slice(alloc, err.taken())?)
+}
+
+#[test]
+fn lines_are_written_up_to_a_fault(rt: HostRuntime) -> Result<(), Fail> {
+    let rows = [
+        (Status::Done, ""),
+        (
+            Status::Usage,
+            "graphiti: usage: print, strip, gather, unfold, rewrite, trace, loops, sim [LIMIT], check, gen N\n",
+        ),
+        (Status::Syntax(0), "graphiti: syntax at byte 0\n"),
+        (Status::Syntax(9), "graphiti: syntax at byte 9\n"),
+        (Status::Syntax(10), "graphiti: syntax at byte 10\n"),
+        (
+            Status::Syntax(16_777_216),
+            "graphiti: syntax at byte 16777216\n",
+        ),
+        (
+            Status::Syntax(usize::MAX),
+            "graphiti: syntax at byte 18446744073709551615\n",
+        ),
+        (
+            Status::TooLong,
+            "graphiti: input longer than 16777216 bytes\n",
+        ),
+        (Status::ReadFault, "graphiti: read failed\n"),
+        (Status::WriteFault, "graphiti: write failed\n"),
+        (Status::NoMemory, "graphiti: no memory\n"),
+        (Status::NotYet, "graphiti: not yet\n"),
+    ];
+    for (status, line) in rows {
+        for piece in [1, 7, 4096] {
+            let taken = line_in(rt.alloc(), status, piece, &[])?;
+            assert_eq!(rt; taken.as_slice(), line.as_bytes(), "in pieces of {piece}");
+        }
+        for before in 0..line.len() {
+            let call = before as u64 + 1;
+            let taken = line_in(rt.alloc(), status, 1, &[call])?;
+            let front = line.as_bytes().get(..before).unwrap_or(&[]);
+            assert_eq!(rt; taken.as_slice(), front, "call {call}");
+        }
+    }
+    Ok(())
+}
+
+#[test]
+fn words_name_commands(rt: HostRuntime) -> Result<(), Fail> {
+    let alloc = rt.alloc();
+    let later = Some(Command::Later);
+    let rows: [(&[&str], Option<Command>); 47] = [
+        (&["print"], Some(Command::Print)),
+        (&["strip"], Some(Command::Strip)),
+        (&["gather"], later),
+        (&["unfold"], later),
+        (&["rewrite"], later),
+        (&["trace"], later),
+        (&["loops"], later),
+        (&["sim"], later),
+        (&["check"], later),
+        (&["sim", "0"], later),
+        (&["sim", "7"], later),
+        (&["sim", "10000000"], later),
+        (&["gen", "1"], later),
+        (&["gen", "2000"], later),
+        (&["--", "print"], Some(Command::Print)),
+        (&["strip", "--"], Some(Command::Strip)),
+        (&["--", "sim", "5"], later),
+        (&["sim", "--", "5"], later),
+        (&["sim", "5", "--"], later),
+        (&["gen", "--", "5"], later),
+        (&[], None),
+        (&[""], None),
+        (&["frob"], None),
+        (&["Print"], None),
+        (&["--"], None),
+        (&["--", "--"], None),
+        (&["--", "--", "print"], None),
+        (&["--", "print", "--"], None),
+        (&["--", "sim", "--", "5"], None),
+        (&["---", "print"], None),
+        (&["print", "5"], None),
+        (&["print", "strip"], None),
+        (&["gen"], None),
+        (&["sim", "5", "6"], None),
+        (&["sim", ""], None),
+        (&["sim", "10000001"], None),
+        (&["sim", "18446744073709551616"], None),
+        (&["sim", "18446744073709551621"], None),
+        (&["sim", "05"], None),
+        (&["sim", "00"], None),
+        (&["sim", "+5"], None),
+        (&["sim", "-5"], None),
+        (&["sim", " 5"], None),
+        (&["sim", "5x"], None),
+        (&["gen", "0"], None),
+        (&["gen", "2001"], None),
+        (&["gen", "01"], None),
+    ];
+    for (words, command) in rows {
+        let owned = owned_words(alloc, words)?;
+        assert_eq!(rt; command_of(&owned), command, "{words:?}");
+    }
     Ok(())
 }
 
@@ -363,6 +596,9 @@ fn an_input_past_the_limit_is_too_long(rt: HostRuntime) -> Result<(), Fail> {
 fn statuses_have_their_numbers(rt: HostRuntime) {
     let rows = [
         (Status::Done, 0),
+        (Status::Usage, 1),
+        (Status::Syntax(0), 2),
+        (Status::Syntax(7), 2),
         (Status::TooLong, 2),
         (Status::ReadFault, 6),
         (Status::WriteFault, 7),

@@ -1,0 +1,12 @@
+use Rattle.graph_core.specs.GraphValue.{by_names}
+use Rattle.graphiti.proofs.run.stripped_text.Goals as goal
+
+pub returns : goal.returns
+returns c =
+    record {
+      stripped = by_names c.in_ok-stripped.stripped;
+      is_stripped = c.in_ok-stripped.ensures.stripped;
+      refines = c.in_ok-stripped.ensures.refines;
+      drains = c.in_ok-stripped.ensures.drains;
+      text = c.in_ok-text.ensures;
+    }

@@ -1,0 +1,5 @@
+use Rattle.graphiti.proofs.Numerals.{tells_numbers}
+use Rattle.graphiti.proofs.words.tells_numbers.Goals as goal
+
+pub returns : goal.returns
+returns c = tells_numbers
