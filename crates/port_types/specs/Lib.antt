@@ -1,3 +1,5 @@
 pub mod Shape
 pub mod Token
 pub mod PortText
+pub mod PortGrammar
+pub mod Tag

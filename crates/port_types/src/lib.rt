@@ -10,9 +10,12 @@
 
 mod items;
 mod memory;
+mod numeral;
+mod port;
 mod port_text;
 mod shape;
 mod side;
+mod tag;
 #[cfg(test)]
 mod tests;
 mod text;
@@ -20,8 +23,10 @@ mod token;
 
 pub use items::Items;
 pub use memory::NoMemory;
+pub use port::{Port, PortFault};
 pub use port_text::{push_port, push_port_name, push_ports};
 pub use shape::{Shape, is_shape, same_shape};
 pub use side::Side;
+pub use tag::tag_width;
 pub use text::Text;
 pub use token::{Token, fits};
