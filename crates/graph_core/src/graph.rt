@@ -11,6 +11,7 @@ ghost use Rattle.graph_core.specs.OpenPorts.{IsClosed, IsFirstOpenAt, AreWired, 
 use crate::kind::{inputs, outputs};
 use crate::node::Node;
 use crate::place::{NodeId, PortAt};
+use crate::port_shapes::{has_port, port_shape};
 use crate::slots::{ids_by_name, index_of, node_in, take_at};
 use crate::wires::{Wire, remove_at, source_in, target_in};
 use port_types::{NoMemory, Shape, Side, same_shape};
@@ -123,29 +124,34 @@ impl Graph {
 
     /// Whether the ports are there, on no wire, and of one shape.
     fn try_wire(&self, source: PortAt, target: PortAt) -> Result<(), AddWire>
-        ensures { MatchResult result (λ _. wire_fault self.now source target ≡ None) (λ fault. wire_fault self.now source target ≡ Some fault) }
+        ensures { MatchResult result (λ _. wire_fault self.now source target ≡ None) (IsWireFault (wire_fault self.now source target)) }
     {
-        let leaving = self
-            .shape_at(Side::Outs, source)
-            .ok_or(AddWire::UnknownPort)?;
-        let entering = self
-            .shape_at(Side::Ins, target)
-            .ok_or(AddWire::UnknownPort)?;
+        let leaving = self.shape_at(Side::Outs, source)?;
+        let entering = self.shape_at(Side::Ins, target)?;
         if self.wire_into(target).is_some() || self.wire_from(source).is_some() {
             return Err(AddWire::PortTaken);
         }
-        if same_shape(leaving, entering) {
+        if same_shape(&leaving, &entering) {
             Ok(())
         } else {
             Err(AddWire::ShapeDiffers)
         }
     }
 
-    /// The shape of a port, or `None` where there is no such port.
-    fn shape_at(&self, side: Side, port: PortAt) -> Option<&Shape>
-        ensures { option_copied result ≡ shape_at self.now side port }
+    /// The shape of a port.
+    fn shape_at(&self, side: Side, port: PortAt) -> Result<Shape, AddWire>
+        ensures { MatchResult result (λ shape. shape_at self.now side port ≡ Some shape)
+            (λ fault. (fault ≡ AddWire.NoMemory) ⊎ ((fault ≡ AddWire.UnknownPort) × (shape_at self.now side port ≡ None))) }
     {
-        self.node(port.node)?.kind.shape_at(side, port.port)
+        let node = self.node(port.node).ok_or(AddWire::UnknownPort)?;
+        if !has_port(&node.kind, side, port.port) {
+            return Err(AddWire::UnknownPort);
+        }
+        let alloc = *self.nodes.allocator();
+        match port_shape(alloc, &node.kind, side, port.port) {
+            Ok(shape) => Ok(shape),
+            Err(NoMemory) => Err(AddWire::NoMemory),
+        }
     }
 
     /// Takes a node out, with the wires at its ports. The ids of the others stay. `None` exactly where no live node has the id;

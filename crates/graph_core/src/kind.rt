@@ -1,13 +1,21 @@
-ghost use Rattle.std.specs.Prelude.{◌≡◌, ◌↔◌, IsTrue, IsSome, IfOk, Some, length, replicate};
-ghost use Rattle.std.specs.Option.{option_copied};
-ghost use Rattle.graph_core.specs.Kind.{ins, outs, ports, KindOk};
-ghost use Rattle.graph_core.specs.Name.{port_get};
+ghost use Rattle.std.specs.Prelude.{◌≡◌, ◌↔◌, ◌≤◌, ◌^◌, IsTrue, length};
+ghost use Rattle.std.specs.List.{concat};
+ghost use Rattle.graph_core.specs.Kind.{ins, outs, KindOk, AreParts, IsCount};
 
-use port_types::{NoMemory, Shape, Side, is_shape};
-use std::alloc::Global;
+use op_table::{Op, typed_op};
+use port_types::{Items, Shape, is_shape};
 
 /// The greatest number of ports of a side.
 const MAX_PORTS: u8 = 64;
+
+/// The greatest number of fields of a shape.
+const MAX_FIELDS: usize = 128;
+
+/// The greatest width of a field, in bits.
+const MAX_WIDTH: u8 = 64;
+
+/// The greatest number of tags.
+const MAX_TAGS: u16 = 256;
 
 /// What a node is, with the shapes of its ports.
 #[derive(Debug, Drop)]
@@ -20,45 +28,94 @@ pub enum Kind {
     Buffer(Shape),
     /// Gives each token to all of its outputs, 1 to 64 of them: one input.
     Fork(Shape, u8),
+    /// Takes one token of each input, of these shapes, and gives them as one.
+    Join(Items<Shape>),
+    /// Cuts each token into one for each output, of these shapes.
+    Split(Items<Shape>),
+    /// Applies the operator to one field from each input: the widths of the inputs and that of the output, in bits.
+    Operator(Op, Items<u8>, u8),
+    /// Gives a value for each token that it takes: the shape of the input, the width of the output in bits, the value.
+    Constant(Shape, u8, u64),
+    /// Gives zeros at any time: one output.
+    Source0(Shape),
+    /// Drops each token: one input.
+    Sink0(Shape),
+    /// Takes the token of its second or of its third input, as the bit at the first input selects.
+    Mux(Shape),
+    /// Gives the token of its first input to one of two outputs, as the bit at the second input selects.
+    Branch(Shape),
+    /// Passes on the tokens of its inputs, 1 to 64 of them, in any order.
+    Merge(Shape, u8),
+    /// As a Merge, and tells at a second output, of this width in bits, which input it took: the number of inputs, the width.
+    CtrlMerge(Shape, u8, u8),
+    /// Passes each bit on, and its output holds a bit at the start: that bit, and with how many tags its loop is to be tagged, 0 for a loop without a mark.
+    Init(u8, u16),
+    /// Gives tags to tokens, and gives their results in the order in which they came: the shape without the tag, the number of tags, 1 to 256.
+    Tagger(Shape, u16),
 }
 
-impl Kind {
-    /// The shape of a port, or `None` where the kind has no such port.
-    pub(crate) fn shape_at(&self, side: Side, port: u8) -> Option<&Shape>
-        ensures { option_copied result ≡ port_get (ports self.now side) port }
-    {
-        match (self, side) {
-            (Kind::Entry(shape), Side::Outs) | (Kind::Exit(shape), Side::Ins) => {
-                shape_among(shape, 1, port)
-            }
-            (Kind::Buffer(shape), _) | (Kind::Fork(shape, _), Side::Ins) => {
-                shape_among(shape, 1, port)
-            }
-            (Kind::Fork(shape, count), Side::Outs) => shape_among(shape, *count, port),
-            (Kind::Entry(_), Side::Ins) | (Kind::Exit(_), Side::Outs) => None,
-        }
-    }
-}
-
-/// The shape of a port where there are `count` ports of one shape.
-fn shape_among(shape: &Shape, count: u8, port: u8) -> Option<&Shape>
-    ensures { option_copied result ≡ port_get (replicate count shape.now) port }
-{
-    if 1 <= port && port <= count {
-        Some(shape)
-    } else {
-        None
-    }
-}
-
-/// Whether the kind meets its row of the table: a Fork has 1 to 64 outputs.
+/// Whether the kind meets its row of the table: its counts of ports, fields and tags are within the limits, and an Operator's widths are those of its operator.
 pub fn kind_ok(kind: &Kind) -> bool
     ensures { IsTrue result ↔ KindOk kind.now }
 {
     match kind {
-        Kind::Entry(shape) | Kind::Exit(shape) | Kind::Buffer(shape) => is_shape(shape.widths()),
-        Kind::Fork(shape, count) => is_shape(shape.widths()) && 1 <= *count && *count <= MAX_PORTS,
+        Kind::Entry(shape)
+        | Kind::Exit(shape)
+        | Kind::Buffer(shape)
+        | Kind::Source0(shape)
+        | Kind::Sink0(shape)
+        | Kind::Mux(shape)
+        | Kind::Branch(shape) => is_shape(shape.widths()),
+        Kind::Fork(shape, count) | Kind::Merge(shape, count) => {
+            is_shape(shape.widths()) && is_count(*count)
+        }
+        Kind::Join(shapes) | Kind::Split(shapes) => are_parts(shapes.as_slice()),
+        Kind::Operator(op, widths, width) => typed_op(*op, widths.as_slice(), *width),
+        Kind::Constant(shape, width, _) => is_shape(shape.widths()) && *width <= MAX_WIDTH,
+        Kind::CtrlMerge(shape, count, width) => {
+            is_shape(shape.widths()) && is_count(*count) && tells_apart(*width, *count)
+        }
+        Kind::Init(value, mark) => *value <= 1 && *mark <= MAX_TAGS,
+        Kind::Tagger(shape, tags) => {
+            shape.widths().len() < MAX_FIELDS && 1 <= *tags && *tags <= MAX_TAGS
+        }
     }
+}
+
+/// Whether a side may have so many ports.
+fn is_count(count: u8) -> bool
+    ensures { IsTrue result ↔ IsCount count }
+{
+    1 <= count && count <= MAX_PORTS
+}
+
+/// Whether these may be the shapes of one side whose other side has them all in one: 1 to 64, with at most 128 fields together.
+fn are_parts(shapes: &[Shape]) -> bool
+    ensures { IsTrue result ↔ AreParts shapes.now }
+{
+    !shapes.is_empty() && shapes.len() <= MAX_PORTS as usize && has_fields_within(shapes, MAX_FIELDS)
+}
+
+/// Whether the shapes have at most so many fields together.
+fn has_fields_within(shapes: &[Shape], most: usize) -> bool
+    ensures { IsTrue result ↔ (length (concat shapes.now) ≤ most) }
+{
+    let mut left = most;
+    for shape in shapes {
+        let fields = shape.widths().len();
+        if fields > left {
+            return false;
+        }
+        left -= fields;
+    }
+    true
+}
+
+/// Whether numbers below the count fit a field of this width.
+fn tells_apart(width: u8, count: u8) -> bool
+    ensures { IsTrue result ↔ (width ≤ 64) × (count ≤ 2 ^ width) }
+{
+    width <= MAX_WIDTH && (width >= 8 || u16::from(count) <= 1 << width)
 }
 
 /// How many inputs a node of this kind has.
@@ -67,8 +124,19 @@ pub fn inputs(kind: &Kind) -> u8
     ensures { result ≡ length (ins kind.now) }
 {
     match kind {
-        Kind::Entry(_) => 0,
-        Kind::Exit(_) | Kind::Buffer(_) | Kind::Fork(..) => 1,
+        Kind::Entry(_) | Kind::Source0(_) => 0,
+        Kind::Exit(_)
+        | Kind::Buffer(_)
+        | Kind::Fork(..)
+        | Kind::Split(_)
+        | Kind::Constant(..)
+        | Kind::Sink0(_)
+        | Kind::Init(..) => 1,
+        Kind::Branch(_) | Kind::Tagger(..) => 2,
+        Kind::Mux(_) => 3,
+        Kind::Merge(_, count) | Kind::CtrlMerge(_, count, _) => *count,
+        Kind::Join(shapes) => shapes.as_slice().len() as u8,
+        Kind::Operator(_, widths, _) => widths.as_slice().len() as u8,
     }
 }
 
@@ -78,20 +146,18 @@ pub fn outputs(kind: &Kind) -> u8
     ensures { result ≡ length (outs kind.now) }
 {
     match kind {
-        Kind::Exit(_) => 0,
-        Kind::Entry(_) | Kind::Buffer(_) => 1,
+        Kind::Exit(_) | Kind::Sink0(_) => 0,
+        Kind::Entry(_)
+        | Kind::Buffer(_)
+        | Kind::Join(_)
+        | Kind::Operator(..)
+        | Kind::Constant(..)
+        | Kind::Source0(_)
+        | Kind::Mux(_)
+        | Kind::Merge(..)
+        | Kind::Init(..) => 1,
+        Kind::Branch(_) | Kind::CtrlMerge(..) | Kind::Tagger(..) => 2,
         Kind::Fork(_, count) => *count,
-    }
-}
-
-/// The shape of a port that the kind has. The only error is want of memory.
-pub fn port_shape(alloc: Global, kind: &Kind, side: Side, port: u8) -> Result<Shape, NoMemory>
-    requires ok { KindOk kind.now }
-    requires there { IsSome (port_get (ports kind.now side) port) }
-    ensures { IfOk result (λ shape. port_get (ports kind.now side) port ≡ Some shape) }
-{
-    match kind.shape_at(side, port) {
-        Some(shape) => shape.copy(alloc),
-        None => unreachable!(),
+        Kind::Split(shapes) => shapes.as_slice().len() as u8,
     }
 }

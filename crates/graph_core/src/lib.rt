@@ -12,13 +12,15 @@ mod kind;
 mod name;
 mod node;
 mod place;
+mod port_shapes;
 mod slots;
 #[cfg(test)]
 mod tests;
 mod wires;
 
 pub use graph::{AddNode, AddWire, Graph, PortOpen, check_typed};
-pub use kind::{Kind, inputs, kind_ok, outputs, port_shape};
+pub use kind::{Kind, inputs, kind_ok, outputs};
 pub use name::is_name;
 pub use node::Node;
 pub use place::{NodeId, PortAt};
+pub use port_shapes::port_shape;
