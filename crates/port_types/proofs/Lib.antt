@@ -1,3 +1,4 @@
 mod Joined
 mod Numerals
 mod Widths
+pub mod TagWidths
