@@ -2,13 +2,18 @@
 use Rattle.std.proofs.Common.{◌≡◌, ◌≢◌, Bool, true, false, cond, ◌||◌, Option, Some, None, is_some, bytes_eq, refl, sym, ap, ◌∙◌, true≢false}
 use Rattle.std.proofs.lemmas.Slice.Eq.{bytes_eq-Decides}
 use Rattle.std.specs.FinMap as map
+use Rattle.std.specs.Prelude.{IsSome}
+use Rattle.port_types.specs.declared.side.Side.{Side}
 use Rattle.port_types.specs.declared.side.Side.TheVariants.{Ins, Outs}
+use Rattle.graph_core.specs.declared.node.Node.{Node}
+use Rattle.graph_core.specs.Name.{port_get}
 use Rattle.graph_core.specs.declared.place.PortAt.{PortAt}
 use Rattle.graph_core.specs.declared.graph.AddWire.TheVariants.{PortTaken, ShapeDiffers}
-use Rattle.graph_core.specs.Kind.{Shape}
-use Rattle.graph_core.specs.GraphValue.{GraphValue, shape_at, feeds}
+use Rattle.graph_core.specs.Kind.{Shape, ins, outs}
+use Rattle.graph_core.specs.GraphValue.{GraphValue, node_at, shape_of, shape_at, feeds}
 use Rattle.graph_core.specs.Wiring.{wire_fault, fault_between, is_taken}
-use Rattle.graph_core.proofs.Known.{not_None, none_by}
+use Rattle.graph_core.proofs.Known.{not_None, none_by, same_Some}
+use Rattle.graph_core.proofs.Options.{some_there}
 use Rattle.graph_core.proofs.Feeds.{fed_where_feeds, feeds_where_fed}
 use Rattle.graph_core.proofs.WireLists.{not_true}
 
@@ -42,6 +47,35 @@ module _ (g : GraphValue) (source target : PortAt) (leaving entering : Shape) (s
 
   pub fault_shape : map.get g.feeders target ≡ None → ((other : PortAt) → map.get g.feeders other ≢ Some source) → leaving ≢ entering → wire_fault g source target ≡ Some ShapeDiffers
   fault_shape into from other = free into from ∙ ap (λ b. cond b None (Some ShapeDiffers)) (not_true _ (λ e. other ((bytes_eq-Decides leaving entering).0 e)))
+
+-- the node that a port belongs to
+pub record Owned (g : GraphValue) (side : Side) (port : PortAt) (node : Node) : Type 0 where
+  pub live : node_at g port.node ≡ Some node
+  pub is_there : IsSome (shape_at g side port)
+
+-- the shapes of two ports, where their owners are known
+module _ (g : GraphValue) (source target : PortAt) (from to : Node) (leaving : Owned g Outs source from) (entering : Owned g Ins target to) where
+  pub from_shape : Shape
+  from_shape = (some_there (shape_at g Outs source) leaving.is_there).0
+
+  pub to_shape : Shape
+  to_shape = (some_there (shape_at g Ins target) entering.is_there).0
+
+  pub shaped : Shaped g source target from_shape to_shape
+  unfolding from_shape to_shape
+  shaped = record { leaves = (some_there (shape_at g Outs source) leaving.is_there).1; enters = (some_there (shape_at g Ins target) entering.is_there).1 }
+
+  output : port_get (outs from.kind) source.port ≡ Some from_shape
+  output = ap (λ o. shape_of o Outs source.port) (sym leaving.live) ∙ shaped.leaves
+
+  input : port_get (ins to.kind) target.port ≡ Some to_shape
+  input = ap (λ o. shape_of o Ins target.port) (sym entering.live) ∙ shaped.enters
+
+  pub one_shape : port_get (outs from.kind) source.port ≡ port_get (ins to.kind) target.port → from_shape ≡ to_shape
+  one_shape same = same_Some (sym output ∙ same ∙ input)
+
+  pub two_shapes : port_get (outs from.kind) source.port ≢ port_get (ins to.kind) target.port → from_shape ≢ to_shape
+  two_shapes differ same = differ (output ∙ ap Some same ∙ sym input)
 
 -- what an added wire fulfils
 pub record Fitting (g : GraphValue) (source target : PortAt) : Type 0 where

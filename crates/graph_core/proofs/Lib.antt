@@ -6,6 +6,8 @@ mod Feeds
 pub mod Orders
 pub mod Known
 pub mod PortLists
+pub mod PortFields
+pub mod PortShapes
 pub mod SlotLists
 pub mod WireLists
 pub mod Finding

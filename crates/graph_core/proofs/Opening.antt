@@ -1,5 +1,7 @@
 -- When a node has no open port, and which of its open ports is the first.
 use Rattle.std.proofs.Common.{◌≡◌, ℕ, zero, suc, ◌<◌, ◌≤◌, true, List, [], ◌∷◌, length, Some, is_some, Result, Ok, Err, IsOk, IsErr, refl, sym, ap, subst, ◌∙◌, arith, true≢false}
+use Rattle.std.specs.Prelude.{◌↔◌, IsTrue, IsSome, nat_le}
+use Rattle.std.proofs.lemmas.Bool.{leb-true, le-leb}
 use Rattle.port_types.specs.declared.side.Side.{Side}
 use Rattle.port_types.specs.declared.side.Side.TheVariants.{Ins, Outs}
 use Rattle.graph_core.specs.declared.node.Node.{Node}
@@ -15,11 +17,11 @@ use Rattle.graph_core.proofs.Finding.{live_where_shaped}
 use Rattle.graph_core.specs.OpenPorts.{port_at, AreWired, IsFirstFree, IsClosed, IsFirstOpenAt}
 
 -- the number of a port that is there
-record Within {A : Type 0} (xs : List A) (i : ℕ) : Type 0 where
-  some : 1 ≤ i
-  few : i ≤ length xs
+pub record Within {A : Type 0} (xs : List A) (i : ℕ) : Type 0 where
+  pub some : 1 ≤ i
+  pub few : i ≤ length xs
 
-within : {A : Type 0} (xs : List A) (i : ℕ) → is_some (port_get xs i) ≡ true → Within xs i
+pub within : {A : Type 0} (xs : List A) (i : ℕ) → is_some (port_get xs i) ≡ true → Within xs i
 within [] i e = absurd (true≢false (sym e))
 within (x ∷ xs) zero e = absurd (true≢false (sym e))
 within (x ∷ xs) (suc zero) e = record { some = omega arith; few = omega arith }
@@ -30,6 +32,15 @@ there [] i a b = absurd (omega arith)
 there (x ∷ xs) zero a b = absurd (omega arith)
 there (x ∷ xs) (suc zero) a b = refl
 there (x ∷ xs) (suc (suc i)) a b = there xs (suc i) (omega arith) (omega arith)
+
+-- a port is there exactly where its number is one of theirs
+pub there_where_counted : {A : Type 0} (xs : List A) (count i : ℕ) → count ≡ length xs → 1 ≤ i → IsTrue (nat_le i count) ↔ IsSome (port_get xs i)
+there_where_counted xs count i same some =
+    (λ few. there xs i some (subst (λ n. i ≤ n) same (leb-true i count few)), λ is_there. le-leb i count (subst (λ n. i ≤ n) (sym same) (within xs i is_there).few))
+
+-- and none has the number 0
+pub none_at_zero : {A : Type 0} (xs : List A) (i : ℕ) → i < 1 → ¬ (IsSome (port_get xs i))
+none_at_zero xs i below is_there = let number = within xs i is_there in absurd (omega (arith, below, number.some))
 
 module _ (g : GraphValue) (id : NodeId) (node : Node) (live : node_at g id ≡ Some node) where
   -- an open port of the node is among its ports
@@ -48,6 +59,13 @@ module _ (g : GraphValue) (id : NodeId) (node : Node) (live : node_at g id ≡ S
 
   is_open_at : (side : Side) (port : ℕ) → IsFirstFree g side id (length (ports node.kind side)) port → IsOpen g (record { node = id; side = side; port = port })
   is_open_at side port found = record { there = ap is_some (ap (λ o. shape_of o side port) live) ∙ there (ports node.kind side) port found.some found.few; free = found.free }
+
+  pub is_first_in : (port : ℕ) → IsFirstFree g Ins id (length (ins node.kind)) port → IsFirstOpenAt g id (record { node = id; side = Ins; port = port })
+  is_first_in port found = record { at = refl; is_open = is_open_at Ins port found; first = λ other at is_open before. first other.side other.port (subst (λ i. IsFree g other.side (port_at i other.port)) at is_open.free) (open_within other at is_open) before }
+    where
+      first : (side : Side) (k : ℕ) → IsFree g side (port_at id k) → Within (ports node.kind side) k → ¬ (ComesBefore side k Ins port)
+      first Ins k free number before = found.first k number.some before free
+      first Outs k free number before = before
 
   pub is_first_out : (port : ℕ) → AreWired g Ins id (length (ins node.kind)) → IsFirstFree g Outs id (length (outs node.kind)) port → IsFirstOpenAt g id (record { node = id; side = Outs; port = port })
   is_first_out port wired found = record { at = refl; is_open = is_open_at Outs port found; first = λ other at is_open before. first other.side other.port (subst (λ i. IsFree g other.side (port_at i other.port)) at is_open.free) (open_within other at is_open) before }

@@ -3,7 +3,7 @@ use Rattle.std.specs.Prelude.{◌≡◌, ℕ, ◌^◌, ◌≤◌, List, [], ◌�
 use Rattle.std.specs.List.{concat}
 use Rattle.op_table.specs.Operator.{IsTypedOp}
 use Rattle.port_types.specs.Shape.{IsShape}
-use Rattle.port_types.specs.TagWidth.{tag_width}
+use Rattle.port_types.specs.Tag.{tag_width}
 use Rattle.port_types.specs.declared.side.Side.{Side}
 use Rattle.port_types.specs.declared.side.Side.TheVariants.{Ins, Outs}
 use Rattle.graph_core.specs.declared.kind.Kind.{Kind}

@@ -7,3 +7,4 @@ pub mod GraphValue
 pub mod Wiring
 pub mod Inside
 pub mod OpenPorts
+pub mod Fields

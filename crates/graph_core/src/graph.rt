@@ -2,6 +2,7 @@ ghost use Rattle.std.specs.Prelude.{◌≡◌, ◌≢◌, ◌↔◌, ◌⊎◌, 
 ghost use Rattle.std.specs.Option.{option_copied, option_map};
 ghost use Rattle.std.specs.FinMap as map_of;
 ghost use Rattle.graph_core.specs.Name.{IsName, Port};
+ghost use Rattle.graph_core.specs.Kind.{KindOk};
 ghost use Rattle.graph_core.specs.Node.{NodeOk, body_of};
 ghost use Rattle.graph_core.specs.NamedGraph.{CanWire, IsTyped, IsWire, no_graph, with_node, with_wire, without_node};
 ghost use Rattle.graph_core.specs.GraphValue.{AreInOrder, by_names, node_at, next_id, port_named, shape_at, HasName, with_slot, with_feeder, without_slot};
@@ -11,10 +12,10 @@ ghost use Rattle.graph_core.specs.OpenPorts.{IsClosed, IsFirstOpenAt, AreWired, 
 use crate::kind::{inputs, outputs};
 use crate::node::Node;
 use crate::place::{NodeId, PortAt};
-use crate::port_shapes::{has_port, port_shape};
+use crate::port_shapes::{has_port, have_one_shape};
 use crate::slots::{ids_by_name, index_of, node_in, take_at};
 use crate::wires::{Wire, remove_at, source_in, target_in};
-use port_types::{NoMemory, Shape, Side, same_shape};
+use port_types::{NoMemory, Side};
 use std::alloc::Global;
 use std::marker::Model;
 
@@ -124,33 +125,33 @@ impl Graph {
 
     /// Whether the ports are there, on no wire, and of one shape.
     fn try_wire(&self, source: PortAt, target: PortAt) -> Result<(), AddWire>
-        ensures { MatchResult result (λ _. wire_fault self.now source target ≡ None) (IsWireFault (wire_fault self.now source target)) }
+        ensures { MatchResult result (λ _. wire_fault self.now source target ≡ None) (λ fault. wire_fault self.now source target ≡ Some fault) }
     {
-        let leaving = self.shape_at(Side::Outs, source)?;
-        let entering = self.shape_at(Side::Ins, target)?;
+        let from = self
+            .owner(Side::Outs, source)
+            .ok_or(AddWire::UnknownPort)?;
+        let to = self.owner(Side::Ins, target).ok_or(AddWire::UnknownPort)?;
         if self.wire_into(target).is_some() || self.wire_from(source).is_some() {
             return Err(AddWire::PortTaken);
         }
-        if same_shape(&leaving, &entering) {
+        if have_one_shape(&from.kind, source.port, &to.kind, target.port) {
             Ok(())
         } else {
             Err(AddWire::ShapeDiffers)
         }
     }
 
-    /// The shape of a port.
-    fn shape_at(&self, side: Side, port: PortAt) -> Result<Shape, AddWire>
-        ensures { MatchResult result (λ shape. shape_at self.now side port ≡ Some shape)
-            (λ fault. (fault ≡ AddWire.NoMemory) ⊎ ((fault ≡ AddWire.UnknownPort) × (shape_at self.now side port ≡ None))) }
+    /// The node that has this port, or `None` where there is no such port.
+    fn owner(&self, side: Side, port: PortAt) -> Option<&Node>
+        ensures none { IfNone result (shape_at self.now side port ≡ None) }
+        ensures some { IfSome (option_copied result) (λ node. (node_at self.now port.node ≡ Some node) × IsSome (shape_at self.now side port)) }
+        ensures right { IfSome (option_copied result) (λ node. KindOk node.kind) }
     {
-        let node = self.node(port.node).ok_or(AddWire::UnknownPort)?;
-        if !has_port(&node.kind, side, port.port) {
-            return Err(AddWire::UnknownPort);
-        }
-        let alloc = *self.nodes.allocator();
-        match port_shape(alloc, &node.kind, side, port.port) {
-            Ok(shape) => Ok(shape),
-            Err(NoMemory) => Err(AddWire::NoMemory),
+        let node = self.node(port.node)?;
+        if has_port(&node.kind, side, port.port) {
+            Some(node)
+        } else {
+            None
         }
     }
 

@@ -1,5 +1,6 @@
-ghost use Rattle.std.specs.Prelude.{◌≡◌, ◌↔◌, ◌≤◌, ◌^◌, IsTrue, length};
+ghost use Rattle.std.specs.Prelude.{◌≡◌, ◌↔◌, ◌≤◌, ◌^◌, IsTrue, All, length};
 ghost use Rattle.std.specs.List.{concat};
+ghost use Rattle.port_types.specs.Shape.{IsShape};
 ghost use Rattle.graph_core.specs.Kind.{ins, outs, KindOk, AreParts, IsCount};
 
 use op_table::{Op, typed_op};
@@ -93,7 +94,17 @@ fn is_count(count: u8) -> bool
 fn are_parts(shapes: &[Shape]) -> bool
     ensures { IsTrue result ↔ AreParts shapes.now }
 {
-    !shapes.is_empty() && shapes.len() <= MAX_PORTS as usize && has_fields_within(shapes, MAX_FIELDS)
+    !shapes.is_empty()
+        && shapes.len() <= MAX_PORTS as usize
+        && are_shapes(shapes)
+        && has_fields_within(shapes, MAX_FIELDS)
+}
+
+/// Whether each of them is a shape.
+fn are_shapes(shapes: &[Shape]) -> bool
+    ensures { IsTrue result ↔ All IsShape shapes.now }
+{
+    shapes.iter().all(|shape| is_shape(shape.widths()))
 }
 
 /// Whether the shapes have at most so many fields together.

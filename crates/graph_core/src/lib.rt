@@ -7,6 +7,7 @@
 //! - `check_typed`: whether each port stands on a wire.
 #![tactic(auto)]
 
+mod fields;
 mod graph;
 mod kind;
 mod name;

@@ -3,8 +3,14 @@ use Rattle.port_types.specs.declared.side.Side.TheVariants.{Ins, Outs}
 use Rattle.graph_core.specs.Kind.{ins}
 use Rattle.graph_core.specs.GraphValue.{node_at}
 use Rattle.graph_core.specs.OpenPorts.{AreWired, IsFirstFree}
-use Rattle.graph_core.proofs.Opening.{is_closed, is_first_out}
+use Rattle.graph_core.proofs.Opening.{is_closed, is_first_in, is_first_out}
 use Rattle.graph_core.proofs.graph.check_node.Goals as goal
+
+pub returns-in-Some-open_port : goal.returns-in-Some-open_port
+returns-in-Some-open_port c =
+    let live : node_at c.args.g.now c.args.id ≡ Some c.in-Some.node.now = search rules in
+    let found = subst (λ count. IsFirstFree c.args.g.now Ins c.args.id count c.in-Some-open_port.port) c.inputs.ensures c.in-Some-open_port.ensures in
+    is_first_in c.args.g.now c.args.id c.in-Some.node.now live c.in-Some-open_port.port found
 
 pub returns-in-Some-open_port-2 : goal.returns-in-Some-open_port-2
 returns-in-Some-open_port-2 c =
