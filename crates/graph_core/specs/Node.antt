@@ -1,14 +1,31 @@
 -- Nodes: what add_node asks of them, and a node without its name.
-use Rattle.std.specs.Prelude.{◌≡◌, ◌≢◌, ◌⊎◌, ℕ, List, codes, All, AllPairs}
+use Rattle.std.specs.Prelude.{◌≡◌, ◌≢◌, ℕ, Bool, IsTrue, List, [], ◌∷◌, codes, bytes_eq, All, AllPairs}
+use Rattle.std.specs.List.{list_any}
 use Rattle.std.specs.FinMap.{FinMap, from_entries}
 use Rattle.graph_core.specs.declared.kind.Kind.{Kind}
+use Rattle.graph_core.specs.declared.kind.Kind.TheVariants.{Operator, Constant, Init, Tagger}
 use Rattle.graph_core.specs.declared.node.Node.{Node}
 use Rattle.graph_core.specs.Name.{name_cmp, IsName}
 use Rattle.graph_core.specs.Kind.{KindOk}
 
+-- the keys of the attributes that the kind's row of the table names
+abbrev pub row_keys : Kind → List (List ℕ)
+row_keys (Operator op widths width) = codes "op" ∷ []
+row_keys (Constant shape width value) = codes "value" ∷ []
+row_keys (Init value mark) = codes "value" ∷ codes "ooo" ∷ []
+row_keys (Tagger shape tags) = codes "tags" ∷ []
+row_keys _ = []
+
+-- the keys of all attributes that the kind owns
+abbrev pub owned_keys : Kind → List (List ℕ)
+owned_keys kind = codes "type" ∷ codes "in" ∷ codes "out" ∷ row_keys kind
+
+abbrev pub is_owned : Kind → List ℕ → Bool
+is_owned kind key = list_any (bytes_eq key) (owned_keys kind)
+
 -- the key is that of an attribute which the kind owns, so it is no kept one
 abbrev pub IsOwned : Kind → List ℕ → Type 0
-IsOwned kind key = (key ≡ codes "type") ⊎ ((key ≡ codes "in") ⊎ (key ≡ codes "out"))
+IsOwned kind key = IsTrue (is_owned kind key)
 
 -- different keys, of which the kind owns none
 pub record KeptOk (kind : Kind) (kept : List (List ℕ × List ℕ)) : Type 0 where

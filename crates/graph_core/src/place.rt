@@ -14,7 +14,8 @@ impl NodeId {
         NodeId { index }
     }
 
-    pub(crate) fn index(self) -> usize
+    /// The index, counted from 0. Different live nodes of a graph have different indices.
+    pub fn index(self) -> usize
         ensures { result ≡ index_of self }
     {
         self.index
