@@ -1,1 +1,5 @@
 mod Names
+mod Bits
+mod Shifts
+mod Signs
+mod Digits

@@ -7,8 +7,14 @@
 //! No call takes memory.
 #![tactic(auto)]
 
+mod arithmetic;
+mod bitwise;
 mod op;
+mod shift;
 mod typing;
+mod value;
+mod word;
 
 pub use op::{Op, op_name, op_of, op_of_short, short_name};
 pub use typing::typed_op;
+pub use value::apply;
