@@ -11,6 +11,8 @@ mod arithmetic;
 mod bitwise;
 mod op;
 mod shift;
+#[cfg(test)]
+mod tests;
 mod typing;
 mod value;
 mod word;
