@@ -16,7 +16,7 @@ ones_of_width width narrow =
     ones_shr 64 (64 - width) (omega arith) ∙ ap (λ n. 2 ^ n - 1) back
 
 -- counted down from a multiple of k, the remainder by k is counted down too
-complement_mod : (m k n : ℕ) → 0 < k → n < m * k → (m * k - suc n) % k ≡ k - 1 - n % k
+pub complement_mod : (m k n : ℕ) → 0 < k → n < m * k → (m * k - suc n) % k ≡ k - 1 - n % k
 complement_mod m k n positive below =
     let inside : n / k < m = div_below n k m positive below in
     let left : m ≡ n / k + (1 + (m - 1 - n / k)) = omega arith in

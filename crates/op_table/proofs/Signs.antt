@@ -25,7 +25,7 @@ mag-signed width number positive fits =
       | inr high ↦ rw (signed-high width number high fits) (omega (arith, power_doubles width positive))
     ]
 
-mag-neg : (n : ℕ) → mag (neg_ℤ (pos n)) ≤ n
+pub mag-neg : (n : ℕ) → mag (neg_ℤ (pos n)) ≤ n
 mag-neg zero = omega arith
 mag-neg (suc n) = omega arith
 

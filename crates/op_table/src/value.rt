@@ -1,5 +1,5 @@
 //! The value of an operator.
-ghost use Rattle.std.specs.Prelude.{◌≡◌, ◌^◌, ◌<◌, [], ◌∷◌};
+ghost use Rattle.std.specs.Prelude.{◌≡◌, ◌^◌, ◌<◌, ◌==◌, if◌then◌else◌, [], ◌∷◌};
 ghost use Rattle.op_table.specs.Operator.{IsTypedOp};
 ghost use Rattle.op_table.specs.Value.{widths_of, InputsFit, op_value};
 
@@ -12,8 +12,18 @@ use crate::word::{low_bits, modulo, signed};
 /// What an operator computes of its inputs, each with its width, for an output of the width `out`. Widths are in bits.
 ///
 /// The widths have to be typed (`typed_op`), and each number has to be below 2 to the power of its width. So is the result.
-#[tactic(auto, unfolding(crate::specs::Value::op_value))]
 pub fn apply(op: Op, args: &[(u8, u64)], out: u8) -> u64
+    requires typed { IsTypedOp op (widths_of args.now) out }
+    requires fit { InputsFit args.now }
+    ensures value { result ≡ op_value op args.now out }
+    ensures fits { result < 2 ^ out }
+{
+    of_all(op, args, out)
+}
+
+/// What an operator computes, by the number of its inputs.
+#[tactic(auto, unfolding(crate::specs::Value::op_value))]
+fn of_all(op: Op, args: &[(u8, u64)], out: u8) -> u64
     requires typed { IsTypedOp op (widths_of args.now) out }
     requires fit { InputsFit args.now }
     ensures { result ≡ op_value op args.now out }
@@ -21,7 +31,7 @@ pub fn apply(op: Op, args: &[(u8, u64)], out: u8) -> u64
     match args {
         [(width, number)] => of_one(op, *width, *number, out),
         [(width, a), (_, b)] => of_two(op, *width, *a, *b, out),
-        [(_, choice), (_, a), (_, b)] => { if *choice == 1 { *a } else { *b } }
+        [(_, choice), (_, a), (_, b)] => select(*choice, *a, *b),
         _ => unreachable!(),
     }
 }
@@ -75,4 +85,11 @@ fn of_two(op: Op, width: u8, a: u64, b: u64, out: u8) -> u64
         Op::Sge => u64::from(signed(width, a) >= signed(width, b)),
         Op::Select | Op::Zext | Op::Sext | Op::Trunc | Op::Ret => unreachable!(),
     }
+}
+
+/// The second where the first is 1, else the third.
+fn select(choice: u64, a: u64, b: u64) -> u64
+    ensures { result ≡ (if choice == 1 then a else b) }
+{
+    if choice == 1 { a } else { b }
 }
