@@ -1,1 +1,12 @@
 mod Names
+mod Widths
+mod Bits
+mod Shifts
+mod Signs
+mod Digits
+mod Congruence
+mod Fitting
+mod Readings
+mod Sums
+mod Quotients
+mod Rounding

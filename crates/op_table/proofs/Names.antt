@@ -1,11 +1,12 @@
 -- Names tell operators apart.
-use Rattle.std.proofs.Common.{◌≡◌, ℕ, ◌↔◌, List, [], ◌∷◌, Bool, true, false, cond, Option, Some, None, IsNone, refl, sym, subst, bytes_eq}
+use Rattle.std.proofs.Common.{◌≡◌, ℕ, ◌↔◌, List, [], ◌∷◌, Bool, true, false, cond, Option, Some, None, IsNone, refl, sym, subst, ap, bytes_eq}
 use Rattle.std.specs.List.{find}
 use Rattle.std.proofs.lemmas.Slice.Eq.{bytes_eq-Decides}
 use Rattle.op_table.specs.declared.op.Op.{Op}
 use Rattle.op_table.specs.declared.op.Op.TheVariants.{Add, Sub, Mul, Udiv, Urem, Sdiv, Srem, And, Or, Xor, Shl, Lshr, Ashr, Eq, Ne, Ult, Ule, Ugt, Uge, Slt, Sle, Sgt, Sge, Select, Zext, Sext, Trunc, Ret}
 use Rattle.op_table.specs.declared.op.TheConstants.{ALL}
 use Rattle.op_table.specs.Operator.{op_word, graph_word}
+use Rattle.op_table.specs.Laws.{GraphWordsDiffer, ShortWordsDiffer}
 
 -- the first item is the one found, or the others have it
 found_step : {X : Type 0} (test : X → Bool) (first x : X) (others : Option X) (b : Bool) → test first ≡ b → cond b (Some first) others ≡ Some x → (others ≡ Some x → test x ≡ true) → test x ≡ true
@@ -90,3 +91,17 @@ finds_op_word Zext = refl
 finds_op_word Sext = refl
 finds_op_word Trunc = refl
 finds_op_word Ret = refl
+
+-- where each operator is found by its name, no two have one name
+names_differ : (name : Op → List ℕ) → ((op : Op) → first_of_name name (name op) ≡ Some op) → (op other : Op) → name op ≡ name other → op ≡ other
+names_differ name finds op other e =
+    let f : first_of_name name (name op) ≡ Some op = finds op in
+    let g : first_of_name name (name other) ≡ Some other = finds other in
+    let same : first_of_name name (name op) ≡ first_of_name name (name other) = ap (first_of_name name) e in
+    cc
+
+pub graph_words_differ : GraphWordsDiffer
+graph_words_differ = names_differ graph_word finds_graph_word
+
+pub short_words_differ : ShortWordsDiffer
+short_words_differ = names_differ op_word finds_op_word

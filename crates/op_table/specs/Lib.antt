@@ -1,1 +1,3 @@
 pub mod Operator
+pub mod Value
+pub mod Laws

@@ -74,8 +74,8 @@ abbrev pub Widens : List ℕ → ℕ → Type 0
 Widens ins out = (width : ℕ) × (ins ≡ width ∷ []) × IsWidth width × IsWidth out × (width ≤ out)
 
 -- `w` gives at most `w`
-abbrev pub Cuts : List ℕ → ℕ → Type 0
-Cuts ins out = (width : ℕ) × (ins ≡ width ∷ []) × IsWidth width × IsWidth out × (out ≤ width)
+abbrev pub Narrows : List ℕ → ℕ → Type 0
+Narrows ins out = (width : ℕ) × (ins ≡ width ∷ []) × IsWidth width × IsWidth out × (out ≤ width)
 
 -- `w` gives `w`, which may be 0
 abbrev pub Passes : List ℕ → ℕ → Type 0
@@ -109,5 +109,5 @@ IsTypedOp Sge ins out = Compares ins out
 IsTypedOp Select ins out = Chooses ins out
 IsTypedOp Zext ins out = Widens ins out
 IsTypedOp Sext ins out = Widens ins out
-IsTypedOp Trunc ins out = Cuts ins out
+IsTypedOp Trunc ins out = Narrows ins out
 IsTypedOp Ret ins out = Passes ins out

@@ -1,5 +1,5 @@
 ghost use Rattle.std.specs.Prelude.{◌↔◌, IsTrue};
-ghost use Rattle.op_table.specs.Operator.{IsWidth, KeepsWidth, Compares, Chooses, Widens, Cuts, Passes, IsTypedOp};
+ghost use Rattle.op_table.specs.Operator.{IsWidth, KeepsWidth, Compares, Chooses, Widens, Narrows, Passes, IsTypedOp};
 
 use crate::op::Op;
 
@@ -37,7 +37,7 @@ pub fn typed_op(op: Op, ins: &[u8], out: u8) -> bool
         | Op::Sge => compares(ins, out),
         Op::Select => chooses(ins, out),
         Op::Zext | Op::Sext => widens(ins, out),
-        Op::Trunc => cuts(ins, out),
+        Op::Trunc => narrows(ins, out),
         Op::Ret => passes(ins, out),
     }
 }
@@ -92,8 +92,8 @@ fn widens(ins: &[u8], out: u8) -> bool
 }
 
 /// `w` gives at most `w`.
-fn cuts(ins: &[u8], out: u8) -> bool
-    ensures { IsTrue result ↔ Cuts ins.now out }
+fn narrows(ins: &[u8], out: u8) -> bool
+    ensures { IsTrue result ↔ Narrows ins.now out }
 {
     match ins {
         [width] => is_width(*width) && is_width(out) && out <= *width,
