@@ -1,3 +1,5 @@
+mod Fields
+mod Fronts
 mod Joined
 mod Numerals
 mod Widths
