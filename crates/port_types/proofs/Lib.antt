@@ -3,3 +3,4 @@ mod Fronts
 mod Joined
 mod Numerals
 mod Widths
+mod Words

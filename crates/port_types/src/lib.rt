@@ -25,7 +25,7 @@ mod token;
 pub use items::Items;
 pub use memory::NoMemory;
 pub use port::{Port, PortFault};
-pub use port_reading::read_port_name;
+pub use port_reading::{read_port_name, read_ports};
 pub use port_text::{push_port, push_port_name, push_ports};
 pub use shape::{Shape, is_shape, same_shape};
 pub use side::Side;

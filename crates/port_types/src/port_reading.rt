@@ -1,12 +1,13 @@
 //! Reading the ports of a side.
-ghost use Rattle.std.specs.Prelude.{◌≡◌, ◌≢◌, ◌==◌, ℕ, ◌+◌, ◌^◌, ◌≤◌, ◌<◌, true, length, map, MatchOption};
+ghost use Rattle.std.specs.Prelude.{◌≡◌, ◌≢◌, ◌==◌, ℕ, ◌+◌, ◌^◌, ◌≤◌, ◌<◌, true, length, map, IsTrue, IfOk, MatchOption};
 ghost use Rattle.std.specs.List.{list_all, list_any};
 ghost use Rattle.std.specs.Option.{option_map};
 ghost use Rattle.std.specs.Str.Parse.{digits_value};
 ghost use Rattle.std.specs.Fmt.{decimal};
 ghost use Rattle.port_types.specs.PortText.{port_name};
-ghost use Rattle.port_types.specs.PortGrammar.{is_numeral, is_blank, is_marker, fields_of, shape_within, shape_reading, with_marker, behind_marker, behind_name, text_behind, port_reading, word_reading, reading, IsReading};
+ghost use Rattle.port_types.specs.PortGrammar.{is_numeral, is_blank, are_marked, is_marker, fields_of, shape_within, shape_reading, with_marker, behind_marker, behind_name, text_behind, port_reading, word_reading, reading, IsReading};
 
+use crate::items::Items;
 use crate::numeral::{is_numeral, small_number, small_value};
 use crate::port::{Port, PortFault};
 use crate::shape::Shape;
@@ -146,6 +147,12 @@ fn is_memory_port(word: &[u8]) -> bool
     word.contains(&b'*')
 }
 
+fn is_blank(byte: u8) -> bool
+    ensures { result ≡ is_blank byte }
+{
+    byte == b' ' || byte == b'\t'
+}
+
 /// The port of the word at an index.
 #[tactic(auto, unfolding(crate::specs::PortGrammar::word_reading))]
 fn read_word(alloc: Global, word: &[u8], side: Side, index: usize) -> Result<Port, PortFault>
@@ -159,4 +166,22 @@ fn read_word(alloc: Global, word: &[u8], side: Side, index: usize) -> Result<Por
     } else {
         read_port(alloc, word, side, index as u8 + 1)
     }
+}
+
+/// The ports that a text says: words separated by spaces and tabs, each `in` or `out` by the side, its number
+/// counted from 1, a marker `?`, `+` or `-` or none, `:` and 1 to 128 widths from 0 to 64 joined by dots. A text
+/// without a word says no ports. The fault is that of the first faulty word, in the order in which `PortFault` lists them.
+pub fn read_ports(alloc: Global, text: &[u8], side: Side) -> Result<Items<Port>, PortFault>
+    ensures reading { IsReading (reading side text.now) result }
+    ensures few { IfOk result (λ ports. length ports ≤ 64) }
+    ensures marked { IfOk result (λ ports. IsTrue (are_marked ports)) }
+{
+    let mut ports = Vec::new(alloc);
+    for part in text.split(|byte| is_blank(*byte)) {
+        if !part.is_empty() {
+            let port = read_word(alloc, part, side, ports.len())?;
+            ports.push(port).map_err(|_| PortFault::NoMemory)?;
+        }
+    }
+    Ok(Items::new(ports))
 }
