@@ -10,15 +10,8 @@ use Rattle.port_types.specs.declared.port.Port.{Port}
 use Rattle.port_types.specs.declared.port.PortFault.{PortFault}
 use Rattle.port_types.specs.declared.port.PortFault.TheVariants.{MemoryPort, TooManyPorts, TooWide, BadPort, NoMemory}
 use Rattle.port_types.specs.PortText.{port_name}
+use Rattle.port_types.proofs.PortWords.{ok_ok, no_ok, few_words, marked_word}
 use Rattle.port_types.specs.PortGrammar.{is_blank, is_word, words_of, is_marker, is_marker_or_none, are_marked, with_marker, shape_reading, behind_marker, behind_name, behind_found, text_behind, port_reading, word_reading, then_ports, words_reading, reading}
-
--- ---- two answers
-
-ok_ok : {A : Type 0} (x y : A) → ◌≡◌ {A = Result A PortFault} (Ok x) (Ok y) → x ≡ y
-ok_ok x y e = cc
-
-no_ok : {A : Type 0} (f : PortFault) (y : A) → ◌≡◌ {A = Result A PortFault} (Err f) (Ok y) → ⊥
-no_ok f y e = absurd (cc)
 
 -- ---- a list of words
 
@@ -66,15 +59,6 @@ words-fault side number (first ∷ words) more word ports fault read is =
 
 -- ---- how many, and which markers
 
-few_words : (side : Side) (number : ℕ) (word : List ℕ) (port : Port) → word_reading side number word ≡ Ok port → number ≤ 64
-unfolding word_reading
-few_words side number word port is = by (list_any (λ byte. byte == 42) word) (nat_lt 64 number) refl refl is
-  where
-    by : (memory late : Bool) → list_any (λ byte. byte == 42) word ≡ memory → nat_lt 64 number ≡ late → cond memory (Err MemoryPort) (cond late (Err TooManyPorts) (port_reading side number word)) ≡ Ok port → number ≤ 64
-    by true late m l read = absurd (no_ok MemoryPort port read)
-    by false true m l read = absurd (no_ok TooManyPorts port read)
-    by false false m l read = grind (arith, nat_tests)
-
 pub few_ports : (side : Side) (number : ℕ) (words : List (List ℕ)) (ports : List Port) → number ≤ 65 → words_reading side number words ≡ Ok ports → number + length ports ≤ 65
 few_ports side number [] ports small read = let none = ok_ok [] ports read in omega (arith, ap length none)
 few_ports side number (word ∷ words) ports small read =
@@ -82,54 +66,6 @@ few_ports side number (word ∷ words) ports small read =
     let here = few_words side number word both.first both.is_first in
     let rest = few_ports side (number + 1) words both.others (omega arith) both.are_others in
     omega (arith, ap length both.are, rest)
-
-with_marker-is : (marker : Option ℕ) (read : Result (List ℕ) PortFault) (port : Port) → with_marker marker read ≡ Ok port → port.marker ≡ marker
-with_marker-is marker (Ok shape) port is = ap (λ (p : Port). p.marker) (sym (ok_ok (record { marker = marker; shape = shape }) port is))
-with_marker-is marker (Err fault) port is = absurd (no_ok fault port is)
-
-behind_marker-is : (marker : Option ℕ) (text : List ℕ) (port : Port) → behind_marker marker text ≡ Ok port → port.marker ≡ marker
-behind_marker-is marker [] port is = absurd (no_ok BadPort port is)
-behind_marker-is marker (byte ∷ text) port is = by (byte == 58) is
-  where
-    by : (colon : Bool) → cond colon (with_marker marker (shape_reading text)) (Err BadPort) ≡ Ok port → port.marker ≡ marker
-    by true read = with_marker-is marker (shape_reading text) port read
-    by false read = absurd (no_ok BadPort port read)
-
-marked_behind : (text : List ℕ) (port : Port) → behind_name text ≡ Ok port → is_marker_or_none port.marker ≡ true
-unfolding behind_name
-marked_behind [] port is = absurd (no_ok BadPort port is)
-marked_behind (byte ∷ text) port is = by (is_marker byte) refl is
-  where
-    by : (marker : Bool) → is_marker byte ≡ marker → cond marker (behind_marker (Some byte) text) (behind_marker None (byte ∷ text)) ≡ Ok port → is_marker_or_none port.marker ≡ true
-    by true tested read = ap is_marker_or_none (behind_marker-is (Some byte) text port read) ∙ tested
-    by false tested read = ap is_marker_or_none (behind_marker-is None (byte ∷ text) port read)
-
--- a word that was read is a port word
-pub port_word : (side : Side) (number : ℕ) (word : List ℕ) (port : Port) → word_reading side number word ≡ Ok port → port_reading side number word ≡ Ok port
-unfolding word_reading
-port_word side number word port is = by (list_any (λ byte. byte == 42) word) (nat_lt 64 number) is
-  where
-    by : (memory late : Bool) → cond memory (Err MemoryPort) (cond late (Err TooManyPorts) (port_reading side number word)) ≡ Ok port → port_reading side number word ≡ Ok port
-    by true late read = absurd (no_ok MemoryPort port read)
-    by false true read = absurd (no_ok TooManyPorts port read)
-    by false false read = read
-
--- and what stands behind its name was read
-pub record IsPortWord (side : Side) (number : ℕ) (word : List ℕ) (port : Port) : Type 0 where
-  pub rest : List ℕ
-  pub behind : text_behind (port_name side number) word ≡ Some rest
-  pub read : behind_name rest ≡ Ok port
-
-pub port_parts : (side : Side) (number : ℕ) (word : List ℕ) (port : Port) → port_reading side number word ≡ Ok port → IsPortWord side number word port
-unfolding port_reading
-port_parts side number word port is = by (text_behind (port_name side number) word) refl is
-  where
-    by : (found : Option (List ℕ)) → text_behind (port_name side number) word ≡ found → behind_found found ≡ Ok port → IsPortWord side number word port
-    by None none read = absurd (no_ok BadPort port read)
-    by (Some rest) found read = record { rest = rest; behind = found; read = read }
-
-marked_word : (side : Side) (number : ℕ) (word : List ℕ) (port : Port) → word_reading side number word ≡ Ok port → is_marker_or_none port.marker ≡ true
-marked_word side number word port is = let parts = port_parts side number word port (port_word side number word port is) in marked_behind parts.rest port parts.read
 
 pub all_marked : (side : Side) (number : ℕ) (words : List (List ℕ)) (ports : List Port) → words_reading side number words ≡ Ok ports → IsTrue (are_marked ports)
 all_marked side number [] ports read = subst (λ ps. IsTrue (are_marked ps)) (ok_ok [] ports read) refl
