@@ -38,7 +38,7 @@ shape_from_test widths is =
     record {
       some = grind (arith, nat_tests);
       few = grind (arith, nat_tests);
-      narrow = λ k d below. let width = AllPass-from_list_all (λ width. nat_le width 64) widths parts.2 k d below in grind (arith, nat_tests)
+      narrow = λ k d below. let width = AllPass-from_list_all (λ width. nat_le width 64) widths parts.2 k d below in grind (arith, nat_tests);
     }
 
 pub no_shape : (widths : List ℕ) → (IsShape widths → ⊥) → is_shape widths ≡ false

@@ -37,11 +37,13 @@ behind-both a b text rest found = by (text_behind b rest) refl
   where
     is : text ≡ a ++ rest
     is = behind-is a text rest found
+
     other : (o : Option (List ℕ)) → text_behind (a ++ b) text ≡ o → text_behind b rest ≡ None → o ≡ None
     other None e none = refl
     other (Some more) e none =
         let whole : a ++ rest ≡ a ++ (b ++ more) = sym is ∙ behind-is (a ++ b) text more e ∙ append_assoc a b more in
         absurd (behind-none b rest more none (append_cancel_left a rest (b ++ more) whole))
+
     by : (o : Option (List ℕ)) → text_behind b rest ≡ o → text_behind (a ++ b) text ≡ text_behind b rest
     by (Some more) e =
         let whole : text ≡ (a ++ b) ++ more = is ∙ ap (λ t. a ++ t) (behind-is b rest more e) ∙ sym (append_assoc a b more) in

@@ -78,7 +78,7 @@ next_digit word i is below =
       low = range.0;
       high = range.1;
       more = subst (λ d. digits_value 10 (take (i + 1) word) ≡ digits_value 10 (take i word) * 10 + d) (digit_is (get_or word i 0) range) (digits_value_more 10 word i below);
-      within = digits_value-take-le 10 word (i + 1) (omega arith)
+      within = digits_value-take-le 10 word (i + 1) (omega arith);
     }
 
 -- ---- numbers from 1 to 255

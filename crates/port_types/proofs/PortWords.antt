@@ -42,7 +42,6 @@ few_words side number word port is = by (list_any (λ byte. byte == 42) word) (n
     by false true m l read = absurd (no_ok TooManyPorts port read)
     by false false m l read = grind (arith, nat_tests)
 
-
 -- a word that was read is a port word
 pub port_word : (side : Side) (number : ℕ) (word : List ℕ) (port : Port) → word_reading side number word ≡ Ok port → port_reading side number word ≡ Ok port
 unfolding word_reading
@@ -163,7 +162,7 @@ too_wide_is text is = by (list_all is_numeral (fields_of text)) (is_shape (map (
       is = sym (join_with_byte-slice_split 46 text);
       some = omega (arith, length-slice_split (λ byte. byte == 46) text);
       numerals = numerals;
-      past = λ shape. let test = shape_test (map (digits_value 10) (fields_of text)) shape in absurd (cc)
+      past = λ shape. let test = shape_test (map (digits_value 10) (fields_of text)) shape in absurd (cc);
     }
     by false within numerals is_within read = absurd (cc)
 
@@ -182,7 +181,7 @@ port_read_is side number word port read =
     record {
       is = parts.is ∙ (λ i. Some (marker_text (both.0 i) ++ 58 ∷ shape.0 i));
       marked = ap is_marker_or_none (sym both.0) ∙ parts.marked;
-      shape = shape.1
+      shape = shape.1;
     }
 
 pub port_too_wide : (side : Side) (number : ℕ) (word : List ℕ) → port_reading side number word ≡ Err TooWide

@@ -198,9 +198,10 @@ texts_uncut : (side : Side) (number : ℕ) (ports : List Port) → number + leng
 texts_uncut side number [] small marked shapes = tt
 texts_uncut side number (port ∷ ports) small marked shapes =
     let marks = ports_marked port ports marked in
-    let in_word = marked_in_word side number port (omega arith) marks.0 (All-head (λ p. IsShape p.shape) port ports shapes) in
-    (All-weaker IsInWord (λ byte. is_blank byte ≡ false) not_blank (marked_text side number port) in_word,
-    texts_uncut side (number + 1) ports (omega arith) marks.1 (All-tail (λ p. IsShape p.shape) port ports shapes))
+    let in_word = marked_in_word side number port (omega arith) marks.0 (All-head (λ p. IsShape p.shape) port ports shapes) in (
+      All-weaker IsInWord (λ byte. is_blank byte ≡ false) not_blank (marked_text side number port) in_word,
+      texts_uncut side (number + 1) ports (omega arith) marks.1 (All-tail (λ p. IsShape p.shape) port ports shapes),
+    )
 
 printed_words : (side : Side) (ports : List Port) → ArePorts ports → words_of (marked_ports_text side ports) ≡ marked_texts_from side 1 ports
 printed_words side [] are = refl
@@ -240,12 +241,15 @@ reads_ports side text ports = (to, from)
   where
     to : reading side text ≡ Ok ports → (words_of text ≡ marked_texts_from side 1 ports) × ArePorts ports
     to read =
-        let texts = words_are_texts side 1 (words_of text) ports read in
-        (texts.0, record {
-          few = omega (arith, few_ports side 1 (words_of text) ports (omega arith) read);
-          marked = all_marked side 1 (words_of text) ports read;
-          shapes = texts.1
-        })
+        let texts = words_are_texts side 1 (words_of text) ports read in (
+          texts.0,
+          record {
+            few = omega (arith, few_ports side 1 (words_of text) ports (omega arith) read);
+            marked = all_marked side 1 (words_of text) ports read;
+            shapes = texts.1;
+          },
+        )
+
     from : (words_of text ≡ marked_texts_from side 1 ports) × ArePorts ports → reading side text ≡ Ok ports
     from is = ap (words_reading side 1) is.0 ∙ texts_read side 1 ports (omega (arith, is.1.few)) is.1.marked is.1.shapes
 
@@ -265,8 +269,9 @@ too_wide_is_unbounded side number word = (to, from)
           marked = parts.3;
           some = wide.some;
           numerals = wide.numerals;
-          past = wide.past
+          past = wide.past;
         }
+
     from : IsUnbounded side number word → port_reading side number word ≡ Err TooWide
     from is =
         ap (port_reading side number) is.is

@@ -84,7 +84,6 @@ more_parts parts i part word within is tested =
 
 module _ (side : Side) (parts : List (List ℕ)) (i : ℕ) (part : List ℕ) (ports : List Port) (within : i < length parts) (is : part ≡ get_or parts i part)
     (read : words_reading side 1 (filter is_word (take i parts)) ≡ Ok ports) where
-
   number : 1 + length ports ≡ length ports + 1
   number = omega arith
 

@@ -14,6 +14,8 @@ mod memory;
 mod numeral;
 mod port;
 mod port_reading;
+#[cfg(test)]
+mod port_tests;
 mod port_text;
 mod shape;
 mod side;

@@ -94,11 +94,7 @@ fn read_shape(alloc: Global, text: &[u8]) -> Result<Shape, PortFault>
 }
 
 /// The port with this marker whose shape stands behind a colon.
-fn read_behind_marker(
-    alloc: Global,
-    marker: Option<u8>,
-    text: &[u8],
-) -> Result<Port, PortFault>
+fn read_behind_marker(alloc: Global, marker: Option<u8>, text: &[u8]) -> Result<Port, PortFault>
     ensures { IsReading (behind_marker marker text.now) result }
 {
     match text {

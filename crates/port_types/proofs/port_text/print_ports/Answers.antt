@@ -18,7 +18,7 @@ loop-index-preserved c =
     let shape : IsShape c.index-ports-index.result.shape = c.in_ok-push_marked_port.ensures.shape in
     record {
       text = grind (arith, common_steps, next);
-      shapes = All-more (λ port. IsShape port.shape) c.args.ports.now c.loop-index.index c.index-ports-index.result (omega arith) c.loop-index.invariant.shapes (subst (λ (port : Port). IsShape port.shape) c.index-ports-index.is shape)
+      shapes = All-more (λ port. IsShape port.shape) c.args.ports.now c.loop-index.index c.index-ports-index.result (omega arith) c.loop-index.invariant.shapes (subst (λ (port : Port). IsShape port.shape) c.index-ports-index.is shape);
     }
 
 pub returns-clause-reads_back : goal.returns-clause-reads_back
