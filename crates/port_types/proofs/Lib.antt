@@ -1,4 +1,9 @@
+mod Fields
+mod Fronts
 mod Joined
 mod Numerals
+mod PortWords
+mod ReadBack
 mod Widths
-pub mod TagWidths
+mod TagWidths
+mod Words

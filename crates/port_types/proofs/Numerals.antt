@@ -1,5 +1,5 @@
 -- Decimal numerals and their numbers.
-use Rattle.std.proofs.Common.{◌≡◌, ◌==◌, ◌&&◌, not, ℕ, ◌+◌, ◌-◌, ◌*◌, ◌≤◌, ◌<◌, ◌^◌, suc, zero, List, [], ◌∷◌, length, get_or, take, Bool, true, false, refl, sym, ap, subst, arith, rules}
+use Rattle.std.proofs.Common.{◌≡◌, ◌≢◌, ◌∙◌, ◌==◌, ◌&&◌, not, ℕ, ◌+◌, ◌-◌, ◌*◌, ◌≤◌, ◌<◌, ◌^◌, suc, zero, List, [], ◌∷◌, length, get_or, take, Bool, true, false, refl, sym, ap, subst, arith, rules}
 use Rattle.std.specs.Char.{is_ascii_digit, digit_value}
 use Rattle.std.specs.Int.{IsInRange}
 use Rattle.std.specs.List.{list_all}
@@ -78,5 +78,16 @@ next_digit word i is below =
       low = range.0;
       high = range.1;
       more = subst (λ d. digits_value 10 (take (i + 1) word) ≡ digits_value 10 (take i word) * 10 + d) (digit_is (get_or word i 0) range) (digits_value_more 10 word i below);
-      within = digits_value-take-le 10 word (i + 1) (omega arith)
+      within = digits_value-take-le 10 word (i + 1) (omega arith);
     }
+
+-- ---- numbers from 1 to 255
+
+pub not_written : (text : List ℕ) (number : ℕ) → is_numeral text ≡ false → number < 2 ^ 8 → text ≢ decimal number
+not_written text number not_numeral small is = let numeral = ap is_numeral is ∙ numeral_of number (omega arith) in absurd (cc)
+
+pub too_great : (text : List ℕ) (number : ℕ) → 2 ^ 8 ≤ digits_value 10 text → number < 2 ^ 8 → text ≢ decimal number
+too_great text number great small is = let value = ap (digits_value 10) is ∙ value_of number (omega arith) in absurd (omega arith)
+
+pub not_zero : (text : List ℕ) (number : ℕ) → 0 ≡ digits_value 10 text → 1 ≤ number → number < 2 ^ 8 → text ≢ decimal number
+not_zero text number zeros some small is = let value = ap (digits_value 10) is ∙ value_of number (omega arith) in absurd (omega arith)

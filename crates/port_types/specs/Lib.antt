@@ -3,3 +3,4 @@ pub mod Token
 pub mod PortText
 pub mod PortGrammar
 pub mod Tag
+pub mod PortLaws

@@ -13,9 +13,13 @@ use Rattle.port_types.specs.PortText.{port_name}
 abbrev pub is_blank : ℕ → Bool
 is_blank byte = byte == 32 || byte == 9
 
--- what stands between blanks and is not empty
-unfoldable pub words_of : List ℕ → List (List ℕ)
-words_of text = filter (λ part. not (length part == 0)) (slice_split is_blank text)
+-- it is not empty
+abbrev pub is_word : List ℕ → Bool
+is_word part = not (length part == 0)
+
+-- the words of a text: what stands between blanks and is not empty
+abbrev pub words_of : List ℕ → List (List ℕ)
+words_of text = filter is_word (slice_split is_blank text)
 
 -- a decimal numeral: digits alone, and no zero before another digit
 abbrev pub is_numeral : List ℕ → Bool
@@ -42,6 +46,14 @@ shape_reading text = if list_all is_numeral (fields_of text) then shape_within (
 -- `?`, `+` or `-`
 abbrev pub is_marker : ℕ → Bool
 is_marker byte = byte == 63 || byte == 43 || byte == 45
+
+abbrev pub is_marker_or_none : Option ℕ → Bool
+is_marker_or_none None = true
+is_marker_or_none (Some byte) = is_marker byte
+
+-- each port has no marker or one of these
+abbrev pub are_marked : List Port → Bool
+are_marked ports = list_all (λ port. is_marker_or_none port.marker) ports
 
 abbrev pub with_marker : Option ℕ → Result (List ℕ) PortFault → Result Port PortFault
 with_marker marker (Ok shape) = Ok (record { marker = marker; shape = shape })

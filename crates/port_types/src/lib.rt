@@ -9,9 +9,13 @@
 #![tactic(auto)]
 
 mod items;
+mod laws;
 mod memory;
 mod numeral;
 mod port;
+mod port_reading;
+#[cfg(test)]
+mod port_tests;
 mod port_text;
 mod shape;
 mod side;
@@ -22,9 +26,11 @@ mod text;
 mod token;
 
 pub use items::Items;
+pub use laws::{plain_texts, reads_back, reads_ports, too_wide_is_unbounded};
 pub use memory::NoMemory;
 pub use port::{Port, PortFault};
-pub use port_text::{push_port, push_port_name, push_ports};
+pub use port_reading::{read_port_name, read_ports};
+pub use port_text::{print_ports, push_port, push_port_name, push_ports};
 pub use shape::{Shape, is_shape, same_shape};
 pub use side::Side;
 pub use tag::tag_width;

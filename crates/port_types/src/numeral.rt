@@ -1,8 +1,9 @@
 //! Decimal numerals.
-ghost use Rattle.std.specs.Prelude.{◌≡◌, ◌^◌, ◌+◌, ◌*◌, ◌<◌, ◌≤◌, true, MatchOption};
+ghost use Rattle.std.specs.Prelude.{◌≡◌, ◌≢◌, ℕ, ◌^◌, ◌+◌, ◌*◌, ◌<◌, ◌≤◌, true, MatchOption};
 ghost use Rattle.std.specs.Char.{is_ascii_digit};
 ghost use Rattle.std.specs.List.{list_all};
 ghost use Rattle.std.specs.Str.Parse.{digits_value};
+ghost use Rattle.std.specs.Fmt.{decimal};
 ghost use Rattle.port_types.specs.PortGrammar.{is_numeral};
 
 /// Whether the bytes are a decimal numeral: digits alone, and no zero before another digit.
@@ -42,4 +43,18 @@ fn with_digit(number: u8, digit: u8) -> Option<u8>
     ensures { MatchOption result (2 ^ 8 ≤ number * 10 + digit) (λ more. more ≡ number * 10 + digit) }
 {
     u8::try_from(u16::from(number) * 10 + u16::from(digit)).ok()
+}
+
+/// The number from 1 to 255 that is written here in decimal, if one is.
+pub(crate) fn small_number(text: &[u8]) -> Option<u8>
+    ensures { MatchOption result ((number : ℕ) → 1 ≤ number → number < 2 ^ 8 → text.now ≢ decimal number)
+        (λ number. (1 ≤ number) × (text.now ≡ decimal number)) }
+{
+    if !is_numeral(text) {
+        return None;
+    }
+    match small_value(text) {
+        Some(number) if number != 0 => Some(number),
+        _ => None,
+    }
 }
