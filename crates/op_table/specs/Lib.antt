@@ -1,3 +1,4 @@
 pub mod Operator
 pub mod Value
+pub mod Table
 pub mod Laws

@@ -1,0 +1,4 @@
+pub mod Attributes
+pub mod Rows
+pub mod NodeReading
+pub mod GraphReading

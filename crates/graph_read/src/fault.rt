@@ -1,0 +1,59 @@
+use port_types::{Side, Text};
+
+/// Why a document is no graph. For each node in the order of the file the first that holds counts, up to `TooMany`; then for each edge, up to `ShapeDiffers`; then `PortOpen`.
+#[derive(Clone, Copy, Debug, PartialEq, Eq)]
+pub enum GraphFaultKind {
+    /// The name is empty, longer than 255 bytes, or holds a byte below 33, a double quote or a backslash.
+    BadName,
+    /// An earlier node has the name.
+    NameTaken,
+    /// There is no `type`.
+    NoKind,
+    /// The `type` is no word of the table of components.
+    UnknownKind,
+    /// The `type` is `MC` or `LSQ`: a node of a memory.
+    MemoryNode,
+    /// A word of `in` or `out` holds `*`: a port to a memory.
+    MemoryPort,
+    /// A text of ports is none, or the ports are not those of the kind's row.
+    BadPorts,
+    /// The `op` of an Operator is absent or no operator, or takes or gives other widths.
+    BadOp,
+    /// The `value` of a Constant is absent or no number below 2^64, or that of an Init is no number or above 1.
+    BadValue,
+    /// The `fun` of a Pure is absent, no function, or gives another shape.
+    BadFun,
+    /// The `ooo` of an Init or the `tags` of a Tagger is no number from 1 to 256, `tags` is absent, or its tags want another width.
+    BadTags,
+    /// It is the 65,537th node.
+    TooMany,
+    /// An end of the edge is no node.
+    UnknownNode,
+    /// `from` or `to` is absent or names no port.
+    UnknownPort,
+    /// One of the ports is on a wire already.
+    PortTaken,
+    /// The shapes of the ports differ.
+    ShapeDiffers,
+    /// A port is on no wire.
+    PortOpen,
+}
+
+/// What is refused first.
+#[derive(Debug, Drop)]
+pub struct GraphRefusal {
+    pub kind: GraphFaultKind,
+    /// The place of the node or edge among those of the document, counted from 1.
+    pub place: usize,
+    /// The name of the node, or of the edge's target.
+    pub name: Text,
+    /// The port, exactly for `PortOpen`.
+    pub port_open: Option<(Side, u8)>,
+}
+
+/// Why a document has no graph.
+#[derive(Debug, Drop)]
+pub enum GraphFault {
+    Refused(GraphRefusal),
+    NoMemory,
+}

@@ -1,0 +1,10 @@
+//! Graphs of documents: the graph that the statements of a document say, or the first thing that is wrong with it.
+//!
+//! - `graph_of`: the graph of a document, or its first refusal.
+//! - `GraphRefusal`: what is refused and where; `GraphFaultKind`: why.
+#![tactic(auto)]
+
+mod component;
+mod fault;
+
+pub use fault::{GraphFault, GraphFaultKind, GraphRefusal};
