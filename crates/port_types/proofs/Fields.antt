@@ -1,14 +1,12 @@
 -- Fields of shapes, one by one.
-use Rattle.std.proofs.Common.{◌≡◌, ◌==◌, ◌&&◌, ℕ, ◌+◌, ◌^◌, ◌≤◌, ◌<◌, Bool, true, false, List, [], ◌∷◌, ◌++◌, length, map, get_or, take, refl, sym, ap, ◌∙◌, arith}
-use Rattle.std.specs.Prelude.{nat_le, IsTrue, ◌↔◌, Ok, Err, Result, Option, Some, None, IfSome, is_some}
-use Rattle.std.specs.List.{list_all, All}
+use Rattle.std.proofs.Common.{◌≡◌, ◌&&◌, ℕ, ◌+◌, ◌<◌, Bool, true, false, List, [], ◌∷◌, ◌++◌, length, map, get_or, take, refl, sym, ap, ◌∙◌, arith}
+use Rattle.std.specs.Prelude.{nat_le, IsTrue, ◌↔◌, Ok, Err, Option, Some, None, IfSome, is_some}
+use Rattle.std.specs.List.{list_all}
 use Rattle.std.specs.Option.{ok_or}
 use Rattle.std.specs.Str.Parse.{digits_value}
 use Rattle.std.proofs.lemmas.Bool.Decides.{nat_tests}
 use Rattle.std.proofs.lemmas.List.{take_more, map-append, length-map, get_or-map}
-use Rattle.std.proofs.lemmas.List.Folds.{list_all_at}
 use Rattle.std.proofs.lemmas.List.Sums.{AllPass-from_list_all, list_all-from_AllPass}
-use Rattle.port_types.specs.declared.port.PortFault.{PortFault}
 use Rattle.port_types.specs.declared.port.PortFault.TheVariants.{TooWide}
 use Rattle.port_types.specs.Shape.{IsShape}
 use Rattle.port_types.specs.PortGrammar.{is_numeral, is_shape, shape_within, IsReading}

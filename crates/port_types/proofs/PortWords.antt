@@ -1,5 +1,5 @@
 -- What one word says.
-use Rattle.std.proofs.Common.{◌≡◌, ◌≢◌, ◌==◌, ◌&&◌, ℕ, ◌+◌, ◌≤◌, ◌<◌, Bool, true, false, cond, List, [], ◌∷◌, ◌++◌, length, map, Option, Some, None, Result, Ok, Err, codes, refl, sym, ap, subst, ◌∙◌, arith}
+use Rattle.std.proofs.Common.{◌≡◌, ◌≢◌, ◌==◌, ◌&&◌, ℕ, ◌≤◌, ◌<◌, Bool, true, false, cond, List, [], ◌∷◌, ◌++◌, length, map, Option, Some, None, Result, Ok, Err, refl, sym, ap, subst, ◌∙◌, arith}
 use Rattle.std.specs.Prelude.{nat_lt}
 use Rattle.std.specs.Fmt.{decimal}
 use Rattle.std.specs.List.{list_all, list_any, All, join_with_byte}
@@ -14,7 +14,7 @@ use Rattle.port_types.specs.declared.port.PortFault.{PortFault}
 use Rattle.port_types.specs.declared.port.PortFault.TheVariants.{MemoryPort, TooManyPorts, TooWide, BadPort}
 use Rattle.port_types.specs.Shape.{IsShape}
 use Rattle.port_types.specs.PortText.{port_name, shape_text, marker_text}
-use Rattle.port_types.specs.PortGrammar.{is_numeral, is_shape, shape_within, fields_of, shape_reading, is_marker, is_marker_or_none, with_marker, behind_marker, behind_name, behind_found, text_behind, port_reading, word_reading}
+use Rattle.port_types.specs.PortGrammar.{is_numeral, is_shape, fields_of, shape_reading, is_marker, is_marker_or_none, with_marker, behind_marker, behind_name, behind_found, text_behind, port_reading, word_reading}
 use Rattle.port_types.proofs.Numerals.{written}
 use Rattle.port_types.proofs.Fields.{shape_test, shape_from_test}
 

@@ -1,6 +1,6 @@
 -- Printed ports are read, and what is read is printed.
-use Rattle.std.proofs.Common.{◌≡◌, ◌≢◌, ◌==◌, ◌&&◌, ℕ, suc, ◌+◌, ◌^◌, ◌≤◌, ◌<◌, Bool, true, false, cond, not, List, [], ◌∷◌, ◌++◌, length, map, get_or, Option, Some, None, Result, Ok, Err, codes, refl, sym, ap, subst, ◌∙◌, append_assoc, append-nil, arith, rules, tests}
-use Rattle.std.specs.Prelude.{nat_lt, nat_le, IsTrue}
+use Rattle.std.proofs.Common.{◌≡◌, ◌≢◌, ◌==◌, ◌&&◌, ℕ, ◌+◌, ◌^◌, ◌≤◌, ◌<◌, Bool, true, false, cond, List, [], ◌∷◌, ◌++◌, length, map, Option, Some, None, Ok, Err, codes, refl, sym, ap, subst, ◌∙◌, append_assoc, append-nil, arith}
+use Rattle.std.specs.Prelude.{nat_lt, IsTrue}
 use Rattle.std.specs.Char.{is_ascii_digit}
 use Rattle.std.specs.Fmt.{decimal}
 use Rattle.std.specs.List.{list_all, list_any, filter, slice_split, join_with_byte, All}
@@ -9,21 +9,20 @@ use Rattle.std.proofs.lemmas.Bool.Decides.{nat_tests}
 use Rattle.std.proofs.lemmas.List.{length-map, length-append}
 use Rattle.std.proofs.lemmas.List.Elements.{All-nil, All-cons, All-head, All-tail, All-append, All-weaker}
 use Rattle.std.proofs.lemmas.List.Folds.{list_any_none}
-use Rattle.std.proofs.lemmas.List.Splits.{slice_split_none, slice_split_at, join_with_byte-slice_split, length-slice_split}
+use Rattle.std.proofs.lemmas.List.Splits.{slice_split_none, slice_split_at}
 use Rattle.std.proofs.lemmas.List.Sums.{AllPass-from_list_all}
 use Rattle.port_types.specs.declared.side.Side.{Side}
 use Rattle.port_types.specs.declared.side.Side.TheVariants.{Ins, Outs}
 use Rattle.port_types.specs.declared.port.Port.{Port}
-use Rattle.port_types.specs.declared.port.PortFault.{PortFault}
 use Rattle.port_types.specs.declared.port.PortFault.TheVariants.{MemoryPort, TooManyPorts, TooWide, BadPort}
 use Rattle.port_types.specs.Shape.{IsShape}
 use Rattle.port_types.specs.PortText.{side_word, port_name, shape_text, marker_text, marked_text, marked_texts_from, marked_ports_text, port_text, port_texts_from}
-use Rattle.port_types.specs.PortGrammar.{is_blank, is_word, words_of, is_numeral, is_shape, shape_within, fields_of, shape_reading, is_marker, is_marker_or_none, are_marked, with_marker, behind_marker, behind_name, behind_found, text_behind, port_reading, word_reading, words_reading, reading}
+use Rattle.port_types.specs.PortGrammar.{is_blank, is_word, words_of, is_numeral, shape_within, shape_reading, is_marker_or_none, are_marked, with_marker, behind_marker, behind_name, behind_found, text_behind, port_reading, word_reading, words_reading, reading}
 use Rattle.port_types.specs.PortLaws.{ArePorts, ReadsBack, ReadsPorts, IsUnbounded, TooWideIsUnbounded, plain, PlainTexts}
-use Rattle.port_types.proofs.Numerals.{numeral_digits, numeral_nonempty, numeral_of, value_of, written}
-use Rattle.port_types.proofs.Fields.{shape_test, shape_from_test, no_shape}
+use Rattle.port_types.proofs.Numerals.{numeral_digits, numeral_of, value_of}
+use Rattle.port_types.proofs.Fields.{shape_test, no_shape}
 use Rattle.port_types.proofs.Fronts.{behind-append, behind-is}
-use Rattle.port_types.proofs.PortWords.{ok_ok, both_true, few_words, port_word, IsPortText, port_read_is, port_too_wide}
+use Rattle.port_types.proofs.PortWords.{ok_ok, both_true, port_word, port_read_is, port_too_wide}
 use Rattle.port_types.proofs.Words.{as_read, read_as, few_ports, all_marked}
 
 -- ---- pieces that hold no separator

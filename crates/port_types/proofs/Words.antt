@@ -1,17 +1,14 @@
 -- Words of a text, read one by one.
-use Rattle.std.proofs.Common.{◌≡◌, ◌≢◌, ◌==◌, ◌&&◌, ℕ, suc, ◌+◌, ◌≤◌, ◌<◌, Bool, true, false, cond, List, [], ◌∷◌, ◌++◌, length, map, get_or, take, drop, Option, Some, None, Result, Ok, Err, refl, sym, ap, subst, ◌∙◌, add-zero, append_assoc, append-nil, arith}
-use Rattle.std.specs.Prelude.{nat_lt, IsTrue}
-use Rattle.std.specs.List.{list_all, list_any, filter, slice_split}
-use Rattle.std.proofs.lemmas.Bool.Decides.{nat_tests}
+use Rattle.std.proofs.Common.{◌≡◌, ℕ, ◌+◌, ◌≤◌, ◌<◌, Bool, true, false, cond, List, [], ◌∷◌, ◌++◌, length, get_or, take, drop, Result, Ok, Err, refl, sym, ap, subst, ◌∙◌, add-zero, append_assoc, append-nil, arith}
+use Rattle.std.specs.Prelude.{IsTrue}
+use Rattle.std.specs.List.{filter}
 use Rattle.std.proofs.lemmas.List.{take-append-drop}
 use Rattle.std.proofs.lemmas.List.Elements.{filter_more, filter-append}
 use Rattle.port_types.specs.declared.side.Side.{Side}
 use Rattle.port_types.specs.declared.port.Port.{Port}
 use Rattle.port_types.specs.declared.port.PortFault.{PortFault}
-use Rattle.port_types.specs.declared.port.PortFault.TheVariants.{MemoryPort, TooManyPorts, TooWide, BadPort, NoMemory}
-use Rattle.port_types.specs.PortText.{port_name}
 use Rattle.port_types.proofs.PortWords.{ok_ok, no_ok, few_words, marked_word}
-use Rattle.port_types.specs.PortGrammar.{is_blank, is_word, words_of, is_marker, is_marker_or_none, are_marked, with_marker, shape_reading, behind_marker, behind_name, behind_found, text_behind, port_reading, word_reading, then_ports, words_reading, reading}
+use Rattle.port_types.specs.PortGrammar.{is_word, are_marked, word_reading, then_ports, words_reading}
 
 -- ---- a list of words
 

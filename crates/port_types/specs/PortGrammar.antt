@@ -9,6 +9,8 @@ use Rattle.port_types.specs.declared.port.PortFault.{PortFault}
 use Rattle.port_types.specs.declared.port.PortFault.TheVariants.{MemoryPort, TooManyPorts, TooWide, BadPort, NoMemory}
 use Rattle.port_types.specs.PortText.{port_name}
 
+-- The words
+
 -- a space or a tab
 abbrev pub is_blank : ℕ → Bool
 is_blank byte = byte == 32 || byte == 9
@@ -20,6 +22,8 @@ is_word part = not (length part == 0)
 -- the words of a text: what stands between blanks and is not empty
 abbrev pub words_of : List ℕ → List (List ℕ)
 words_of text = filter is_word (slice_split is_blank text)
+
+-- A shape
 
 -- a decimal numeral: digits alone, and no zero before another digit
 abbrev pub is_numeral : List ℕ → Bool
@@ -42,6 +46,8 @@ fields_of text = slice_split (λ byte. byte == 46) text
 -- numerals joined by dots, whose numbers are a shape's
 unfoldable pub shape_reading : List ℕ → Result (List ℕ) PortFault
 shape_reading text = if list_all is_numeral (fields_of text) then shape_within (map (digits_value 10) (fields_of text)) else Err BadPort
+
+-- A port, from behind to front
 
 -- `?`, `+` or `-`
 abbrev pub is_marker : ℕ → Bool
@@ -80,6 +86,8 @@ behind_found (Some text) = behind_name text
 -- the name of the port of this number, and what has to stand behind it
 unfoldable pub port_reading : Side → ℕ → List ℕ → Result Port PortFault
 port_reading side number word = behind_found (text_behind (port_name side number) word)
+
+-- The words in order
 
 -- what the word of this number says; `*` marks a memory port
 unfoldable pub word_reading : Side → ℕ → List ℕ → Result Port PortFault

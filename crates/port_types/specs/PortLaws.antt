@@ -1,5 +1,5 @@
 -- Laws of port texts: what is read is what is printed.
-use Rattle.std.specs.Prelude.{◌≡◌, ◌↔◌, ℕ, ◌≤◌, ◌<◌, Bool, true, List, ◌++◌, length, map, Option, None, Ok, Err, All, IsTrue, codes}
+use Rattle.std.specs.Prelude.{◌≡◌, ◌↔◌, ℕ, ◌≤◌, ◌<◌, true, List, ◌++◌, length, map, Option, None, Ok, Err, All, IsTrue, codes}
 use Rattle.std.specs.List.{join_with_byte, list_all}
 use Rattle.std.specs.Str.Parse.{digits_value}
 use Rattle.port_types.specs.declared.side.Side.{Side}

@@ -1,4 +1,4 @@
-use Rattle.std.proofs.Common.{◌≡◌, false, true, ℕ, ◌<◌, ◌^◌, sym, ◌∙◌, ap, arith, rules, tests}
+use Rattle.std.proofs.Common.{◌≡◌, false, true, ◌<◌, ◌^◌, sym, ◌∙◌, ap, arith, rules, tests}
 use Rattle.std.specs.Str.Parse.{digits_value}
 use Rattle.std.specs.Fmt.{decimal}
 use Rattle.port_types.specs.PortGrammar.{is_numeral}

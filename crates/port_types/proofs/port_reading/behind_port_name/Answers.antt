@@ -1,4 +1,4 @@
-use Rattle.std.proofs.Common.{◌≡◌, List, ℕ, Option, Some, None, sym, ◌∙◌, ap}
+use Rattle.std.proofs.Common.{◌≡◌, Some, None, sym, ◌∙◌}
 use Rattle.std.specs.Fmt.{decimal}
 use Rattle.port_types.specs.PortText.{side_word}
 use Rattle.port_types.specs.PortGrammar.{text_behind}

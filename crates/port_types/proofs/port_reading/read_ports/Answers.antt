@@ -1,10 +1,10 @@
-use Rattle.std.proofs.Common.{◌≡◌, ◌≢◌, ◌==◌, not, ℕ, ◌+◌, ◌∷◌, [], ◌++◌, ◌<◌, ◌≤◌, List, length, map, take, drop, get_or, sym, ◌∙◌, ap, subst, is_ok, true, false, Ok, Err, arith, rules, tests}
+use Rattle.std.proofs.Common.{◌≡◌, ◌+◌, ◌∷◌, [], ◌++◌, length, take, sym, ◌∙◌, ap, is_ok, true, false, Ok, Err, arith, rules, tests}
 use Rattle.std.specs.List.{filter, slice_split}
 use Rattle.std.proofs.lemmas.List.{length_push}
 use Rattle.std.proofs.Math.Seq.{take-length}
 use Rattle.std.proofs.lemmas.Iterator.Consumers.{YieldsList-turn, YieldsList-end}
 use Rattle.std.proofs.lemmas.Iterator.Splits.{YieldsList-from_slice_split}
-use Rattle.port_types.specs.PortGrammar.{is_blank, is_word, words_of, words_reading, word_reading, reading, IsReading}
+use Rattle.port_types.specs.PortGrammar.{is_blank, is_word, words_of, words_reading, word_reading}
 use Rattle.port_types.proofs.Words.{few_ports, all_marked, parts_skip, parts_more, parts_fault}
 use Rattle.port_types.proofs.port_reading.read_ports.Goals as goal
 

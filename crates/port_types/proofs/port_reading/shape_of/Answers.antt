@@ -1,4 +1,4 @@
-use Rattle.std.proofs.Common.{◌≡◌, ◌==◌, ℕ, ◌+◌, ◌∷◌, [], ◌++◌, ◌<◌, ◌≤◌, List, length, map, take, get_or, sym, ◌∙◌, ap, arith, rules, tests, subst, is_ok, true}
+use Rattle.std.proofs.Common.{◌≡◌, ◌==◌, ◌≤◌, length, map, take, ◌∙◌, ap, arith, rules, tests, subst, is_ok, true}
 use Rattle.std.specs.Str.Parse.{digits_value}
 use Rattle.std.proofs.lemmas.List.{length_push}
 use Rattle.std.proofs.lemmas.Iterator.Consumers.{YieldsList-turn, YieldsList-end}

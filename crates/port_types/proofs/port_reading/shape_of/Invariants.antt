@@ -1,4 +1,4 @@
-use Rattle.std.proofs.Common.{◌≡◌, ℕ, List, length, map, take}
+use Rattle.std.proofs.Common.{◌≡◌, length, map, take}
 use Rattle.std.specs.Str.Parse.{digits_value}
 use Rattle.port_types.specs.PortGrammar.{fields_of}
 use Rattle.port_types.proofs.port_reading.shape_of.Given as goal

@@ -1,4 +1,4 @@
-use Rattle.std.proofs.Common.{◌≡◌, ◌≤◌, ◌<◌, length, take, get_or, ap, subst, sym, ◌∙◌, arith}
+use Rattle.std.proofs.Common.{◌≡◌, length, take, ap, subst, ◌∙◌, arith}
 use Rattle.std.specs.List.{All}
 use Rattle.std.proofs.Math.Seq.{take-length}
 use Rattle.std.proofs.lemmas.Grind.{common_steps}
@@ -6,7 +6,6 @@ use Rattle.std.proofs.lemmas.List.Elements.{All-more}
 use Rattle.port_types.specs.Shape.{IsShape}
 use Rattle.port_types.specs.declared.port.Port.{Port}
 use Rattle.port_types.specs.PortText.{marked_ports_text}
-use Rattle.port_types.specs.PortLaws.{ArePorts}
 use Rattle.port_types.specs.PortGrammar.{reading}
 use Rattle.port_types.proofs.Joined.{next_marked_port}
 use Rattle.port_types.proofs.ReadBack.{reads_back}
