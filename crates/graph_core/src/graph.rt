@@ -1,7 +1,8 @@
-ghost use Rattle.std.specs.Prelude.{◌≡◌, ◌≢◌, ◌↔◌, ◌⊎◌, [], ◌∷◌, length, map, Some, None, Ok, Err, IsTrue, IsSome, IsNone, IsOk, IfSome, IfNone, IfOk, IfErr, OnOk, OnErr, OnSome, IsOkUnless, is_some, MatchOption, MatchResult};
+ghost use Rattle.std.specs.Prelude.{◌≡◌, ◌≢◌, ◌↔◌, ◌⊎◌, ◌<◌, [], ◌∷◌, length, map, Some, None, Ok, Err, IsTrue, IsSome, IsNone, IsOk, IfSome, IfNone, IfOk, IfErr, OnOk, OnErr, OnSome, IsOkUnless, is_some, MatchOption, MatchResult};
 ghost use Rattle.std.specs.Option.{option_copied, option_map};
 ghost use Rattle.std.specs.FinMap as map_of;
 ghost use Rattle.graph_core.specs.Name.{IsName, Port};
+ghost use Rattle.graph_core.specs.Place.{index_of, id_of};
 ghost use Rattle.graph_core.specs.Kind.{KindOk};
 ghost use Rattle.graph_core.specs.Node.{NodeOk, body_of};
 ghost use Rattle.graph_core.specs.NamedGraph.{CanWire, IsTyped, IsWire, no_graph, with_node, with_wire, without_node};
@@ -9,6 +10,7 @@ ghost use Rattle.graph_core.specs.GraphValue.{AreInOrder, by_names, node_at, nex
 ghost use Rattle.graph_core.specs.Wiring.{wire_fault, IsWireFault, IsFree, IsFirstOpen};
 ghost use Rattle.graph_core.specs.OpenPorts.{IsClosed, IsFirstOpenAt, AreWired, IsFirstFree};
 
+use crate::copying::copy_slots;
 use crate::kind::{inputs, outputs};
 use crate::node::Node;
 use crate::place::{NodeId, PortAt};
@@ -206,6 +208,33 @@ impl Graph {
             → IfNone result ((target : Port) → map_of.get (by_names self.now).feeders target ≢ Some (port_named self.now source)) }
     {
         target_in(&self.wires, source)
+    }
+
+    /// How many slots for nodes there are: the index of each live node is below it. A new graph has none. Takes no memory.
+    pub fn slots(&self) -> usize
+        ensures count { result ≡ length self.now.slots }
+        ensures within { (id : NodeId) → IsSome (node_at self.now id) → index_of id < result }
+    {
+        self.nodes.len()
+    }
+
+    /// The live node with this index, counted from 0. `None` exactly where there is none. Takes no memory.
+    pub fn id_at(&self, index: usize) -> Option<NodeId>
+        ensures live { IsSome (node_at self.now (id_of index)) → result ≡ Some (id_of index) }
+        ensures none { IsNone (node_at self.now (id_of index)) → result ≡ None }
+    {
+        let id = NodeId::new(index);
+        self.node(id)?;
+        Some(id)
+    }
+
+    /// The same graph again: equal nodes and wires with the same ids. The only error is want of memory.
+    pub fn copy(&self, alloc: Global) -> Result<Graph, NoMemory>
+        ensures { IfOk result (λ copy. copy ≡ self.now) }
+    {
+        let nodes = copy_slots(alloc, &self.nodes)?;
+        let wires = Vec::from_slice(alloc, &self.wires)?;
+        Ok(Graph { nodes, wires })
     }
 
     /// The ids of the live nodes in the byte order of their names. The only error is want of memory.

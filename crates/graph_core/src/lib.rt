@@ -7,6 +7,7 @@
 //! - `check_typed`: whether each port stands on a wire.
 #![tactic(auto)]
 
+mod copying;
 mod fields;
 mod graph;
 mod kind;
@@ -15,6 +16,7 @@ mod node;
 mod owned;
 mod place;
 mod port_shapes;
+mod same;
 mod slots;
 #[cfg(test)]
 mod tests;
