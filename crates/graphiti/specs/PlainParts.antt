@@ -14,7 +14,7 @@ use Rattle.graph_core.specs.Node.{Body}
 use Rattle.graph_core.specs.NamedGraph.{NamedGraph, IsNamed, IsWire, CanWire}
 use Rattle.graphiti.specs.declared.plain.FieldKind.{FieldKind}
 use Rattle.graphiti.specs.declared.plain.FieldKind.TheVariants.{Entry, Exit, Buffer, Fork}
-use Rattle.graph_print.specs.CanonicalText.{is_digit, kind_word}
+use Rattle.graph_print.specs.CanonicalText.{kind_word}
 use Rattle.graphiti.specs.Plain.{last_value, is_owned, side_value, ReadsNode, ReadsEdge, ReadsNodes, ReadsEdges}
 
 infixl 10 ◌>>=◌
