@@ -1,0 +1,58 @@
+-- Canonical texts as inputs.
+use Rattle.std.specs.Prelude.{◌≡◌, ℕ, ◌≤◌, List, Some}
+use Rattle.std.specs.Str.{IsUtf8}
+use Rattle.std.specs.FinMap as map
+use Rattle.dot_text.specs.Printing.{CanBeQuoted}
+use Rattle.graph_core.specs.declared.kind.Kind.{Kind}
+use Rattle.graph_core.specs.Name.{Name}
+use Rattle.graph_core.specs.Node.{Body, IsOwned}
+use Rattle.graph_core.specs.NamedGraph.{NamedGraph, IsTyped, IsNamed}
+use Rattle.graph_print.specs.CanonicalText.{text_of}
+use Rattle.graphiti.specs.Plain.{HasOneField}
+use Rattle.graphiti.specs.Input.{IsInputOf}
+
+-- some quoted text stands for it, and it is UTF-8 as a document is
+pub record CanBeWritten (text : List ℕ) : Type 0 where
+  pub quoted : CanBeQuoted text
+  pub utf8 : IsUtf8 text
+
+-- the attribute can be read as a kept one: its texts can be written, and its key says nothing else of a node of this kind
+pub record CanBeKept (kind : Kind) (key value : List ℕ) : Type 0 where
+  pub unowned : ¬ (IsOwned kind key)
+  pub written_key : CanBeWritten key
+  pub written_value : CanBeWritten value
+
+abbrev pub KeptCanBeRead : NamedGraph → Type 0
+KeptCanBeRead g =
+    (name : Name) (body : Body) (key value : List ℕ) → map.get g.nodes name ≡ Some body → map.get body.kept key ≡ Some value → CanBeKept body.kind key value
+
+abbrev pub PortsHaveOneField : NamedGraph → Type 0
+PortsHaveOneField g = (name : Name) (body : Body) → map.get g.nodes name ≡ Some body → HasOneField body.kind
+
+-- within the limits of reading: what a plain document asks of its graph, and what its kept texts must be for their printed pairs to say them again
+pub record CanBeRead (g : NamedGraph) : Type 0 where
+  pub typed : IsTyped g
+  pub names : IsNamed g
+  pub few : map.len g.nodes ≤ 65536
+  pub one_field : PortsHaveOneField g
+  pub kept : KeptCanBeRead g
+
+-- the canonical text of a graph reads back to the graph
+abbrev pub TextReadsBack : Type 0
+TextReadsBack = (g : NamedGraph) → CanBeRead g → IsInputOf g (text_of g)
+
+-- a graph that was read is within the limits: its kept texts stood in a document, so they can be written
+abbrev pub ReadCanBeRead : Type 0
+ReadCanBeRead = (g : NamedGraph) (bytes : List ℕ) → IsInputOf g bytes → CanBeRead g
+
+-- what is printed of a graph that was read is an input of the same graph
+abbrev pub PrintReadsBack : Type 0
+PrintReadsBack = (g : NamedGraph) (bytes : List ℕ) → IsInputOf g bytes → IsInputOf g (text_of g)
+
+-- bytes are the input of one graph alone
+abbrev pub InputIsOneGraph : Type 0
+InputIsOneGraph = (g h : NamedGraph) (bytes : List ℕ) → IsInputOf g bytes → IsInputOf h bytes → g ≡ h
+
+-- printing what was printed gives it again
+abbrev pub PrintOfPrint : Type 0
+PrintOfPrint = (g h : NamedGraph) (bytes : List ℕ) → IsInputOf g bytes → IsInputOf h (text_of g) → text_of h ≡ text_of g
