@@ -26,3 +26,4 @@ pub mod Faults
 pub mod SimpleTexts
 pub mod CanonicalPairs
 pub mod CanonicalDocument
+pub mod ReadTexts
