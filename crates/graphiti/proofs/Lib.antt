@@ -27,3 +27,4 @@ pub mod SimpleTexts
 pub mod CanonicalPairs
 pub mod CanonicalDocument
 pub mod ReadTexts
+pub mod StrippedTexts

@@ -9,6 +9,7 @@ use Rattle.graph_core.specs.Node.{Body, IsOwned}
 use Rattle.graph_core.specs.NamedGraph.{NamedGraph, IsTyped, IsNamed}
 use Rattle.graph_print.specs.CanonicalText.{text_of}
 use Rattle.graphiti.specs.Plain.{HasOneField}
+use Rattle.graphiti.specs.Stripped.{IsStripped}
 use Rattle.graphiti.specs.Input.{IsInputOf}
 
 -- some quoted text stands for it, and it is UTF-8 as a document is
@@ -44,6 +45,10 @@ TextReadsBack = (g : NamedGraph) → CanBeRead g → IsInputOf g (text_of g)
 -- a graph that was read is within the limits: its kept texts stood in a document, so they can be written
 abbrev pub ReadCanBeRead : Type 0
 ReadCanBeRead = (g : NamedGraph) (bytes : List ℕ) → IsInputOf g bytes → CanBeRead g
+
+-- so is the stripped graph of a graph within them
+abbrev pub StrippedCanBeRead : Type 0
+StrippedCanBeRead = (g h : NamedGraph) → CanBeRead g → IsStripped g h → CanBeRead h
 
 -- what is printed of a graph that was read is an input of the same graph
 abbrev pub PrintReadsBack : Type 0

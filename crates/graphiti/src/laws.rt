@@ -1,6 +1,6 @@
 //! Laws of the definitions that the contract of `run` speaks of.
 ghost use Rattle.graphiti.specs.Plain.{PlainIsOneGraph};
-ghost use Rattle.graphiti.specs.ReadBack.{TextReadsBack, ReadCanBeRead, PrintReadsBack, InputIsOneGraph, PrintOfPrint};
+ghost use Rattle.graphiti.specs.ReadBack.{TextReadsBack, ReadCanBeRead, StrippedCanBeRead, PrintReadsBack, InputIsOneGraph, PrintOfPrint};
 ghost use Rattle.graphiti.specs.Stripped.{HasStripped, IsOneStripped};
 ghost use Rattle.graphiti.specs.Strips.{TurnsEnd, TurnsStrip};
 ghost use Rattle.graphiti.specs.Behaviour.{StrippedDrains, StrippedIsRefined, StrippedRefines, StrippedTyped};
@@ -31,6 +31,13 @@ pub fn read_texts_can_be_quoted()
     ensures { ReadCanBeRead }
 {
     standing_document_prints();
+}
+
+/// The stripped graph of a graph within these limits is within them.
+pub fn stripped_can_be_read()
+    ensures { StrippedCanBeRead }
+{
+    stripped_refines();
 }
 
 /// What is printed of a graph that was read is an input of that graph and of no other, so printing it again gives the same text.
