@@ -3,7 +3,7 @@ use Rattle.std.proofs.Common.{◌≡◌, ℕ, refl, sym, subst, ◌==◌, Bool, 
 use Rattle.std.proofs.lemmas.Bool.{cond_both}
 use Rattle.std.proofs.lemmas.Bool.Decides.{nat_tests}
 use Rattle.std.specs.Str.{str_to_ascii_lowercase}
-use Rattle.dot_text.specs.Tokens.{Token, Id, Digraph, Subgraph, Default, Strict, Open, Close, OpenList, CloseList, Semicolon, Comma, Equals, Arrow, word_token}
+use Rattle.dot_text.specs.Tokens.{Token, Id, Open, Close, OpenList, CloseList, Semicolon, Comma, Equals, word_token}
 use Rattle.dot_text.specs.Lexical.{is_plain, is_in_name, is_by_numeral, begins_name, all, is_name, is_numeral, is_unsigned, mark_token, Quotes, Quotes.nothing as no_bytes, Quotes.plain, Quotes.quote, Quotes.passed, Spells, Spells.name as bare, Spells.numeral, Spells.quoted, Spells.arrow, Spells.mark, Lexes, Lexes.none as no_token, Lexes.next}
 use Rattle.dot_text.specs.Grammar.{Pair, Kept, Node, Edge, kept_node, Pairs, Pairs.none as no_pair, Pairs.pair, Lists, Lists.none as no_list, Lists.list, Statement, Statement.node, Statement.edge, Statement.default, Statement.set, Statement.subgraph, Statements, Statements.none as no_statement, Statements.some, Document, Document.document}
 use Rattle.dot_text.specs.declared.doc.Doc.{Doc}
@@ -12,7 +12,7 @@ use Rattle.dot_text.specs.declared.doc.DocEdge.{DocEdge}
 use Rattle.dot_text.specs.Documents.{nodes_of, edges_of, doc_of, Stands}
 use Rattle.dot_text.specs.Printing.{CanBeQuoted, EachOf, PairPrints, NodePrints, EdgePrints, HasPair, DocPrints}
 use Rattle.dot_text.specs.Texts.{PairTexts, NodeTexts, EdgeTexts, DocTexts}
-use Rattle.dot_text.proofs.Tests.{Both, both, and_both, marks}
+use Rattle.dot_text.proofs.Tests.{Both, both, and_both}
 use Rattle.dot_text.proofs.Scanned.{unsigned_all}
 use Rattle.dot_text.proofs.Quoted.{without_ascii}
 

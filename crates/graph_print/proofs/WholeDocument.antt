@@ -1,7 +1,6 @@
 -- The statements of the nodes and of the wires are the canonical document.
 use Rattle.std.proofs.Common.{◌≡◌, List, [], ◌∷◌, ◌++◌, map, flat_map, Option, Some, sym, refl, ap, ◌∙◌}
 use Rattle.std.specs.FinMap as map_of
-use Rattle.std.proofs.lemmas.List.Concat.{flat_map-append}
 use Rattle.std.proofs.lemmas.List.Folds.{flat_map-map}
 use Rattle.graph_core.specs.declared.place.NodeId.{NodeId}
 use Rattle.graph_core.specs.GraphValue.{GraphValue, by_names, named_at}

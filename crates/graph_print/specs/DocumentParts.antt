@@ -1,5 +1,5 @@
 -- What the document of a graph has for each node of the graph.
-use Rattle.std.specs.Prelude.{ℕ, List, [], ◌∷◌, map, Option, Some, None}
+use Rattle.std.specs.Prelude.{List, [], ◌∷◌, map, Option, Some, None}
 use Rattle.dot_text.specs.declared.doc.DocNode.{DocNode}
 use Rattle.dot_text.specs.declared.doc.DocEdge.{DocEdge}
 use Rattle.graph_core.specs.declared.place.NodeId.{NodeId}

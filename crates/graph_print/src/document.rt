@@ -39,12 +39,7 @@ fn node_entries(alloc: Global, g: &Graph, ids: &[NodeId]) -> Result<Items<DocNod
 }
 
 /// Appends the statement of a node.
-fn push_node(
-    alloc: Global,
-    nodes: &mut Vec<DocNode>,
-    g: &Graph,
-    id: NodeId,
-) -> Result<(), NoMemory>
+fn push_node(alloc: Global, nodes: &mut Vec<DocNode>, g: &Graph, id: NodeId) -> Result<(), NoMemory>
     ensures { OnOk result (nodes.new.items ≡ nodes.old.items ++ node_entries_at g.now id) }
 {
     if let Some(node) = g.node(id) {

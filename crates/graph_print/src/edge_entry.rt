@@ -21,14 +21,11 @@ pub(crate) fn edge_entry(
 {
     let source = source.copy(alloc)?;
     let target = target.copy(alloc)?;
+    let from = port_name(alloc, Side::Outs, output)?;
+    let to = port_name(alloc, Side::Ins, input)?;
     let mut pairs = Vec::new(alloc);
-    push_pair(
-        alloc,
-        &mut pairs,
-        "from",
-        port_name(alloc, Side::Outs, output)?,
-    )?;
-    push_pair(alloc, &mut pairs, "to", port_name(alloc, Side::Ins, input)?)?;
+    push_pair(alloc, &mut pairs, "from", from)?;
+    push_pair(alloc, &mut pairs, "to", to)?;
     Ok(DocEdge {
         source,
         target,

@@ -30,7 +30,8 @@ fn pairs_of(alloc: Global, node: &Node) -> Result<Items<(Text, Text)>, NoMemory>
     ensures { IfOk result (λ pairs. pairs ≡ pairs_of (body_of node.now)) }
 {
     let mut pairs = Vec::new(alloc);
-    push_pair(alloc, &mut pairs, "type", text_from(alloc, kind_word(&node.kind))?)?;
+    let word = text_from(alloc, kind_word(&node.kind))?;
+    push_pair(alloc, &mut pairs, "type", word)?;
     push_side(alloc, &mut pairs, &node.kind, Side::Ins)?;
     push_side(alloc, &mut pairs, &node.kind, Side::Outs)?;
     push_kept(alloc, &mut pairs, node.kept.as_slice())?;

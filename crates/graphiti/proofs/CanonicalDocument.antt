@@ -162,8 +162,8 @@ module _ (g : NamedGraph) (within : CanBeRead g) where
       each-from_recursion (PairTexts CanBeWritten) (map_of.entries body.kept)
       (each_entry name_total name_same (PairTexts CanBeWritten) (map_of.entries body.kept) (apart-from_sorted name_cmp (map_of.entries body.kept) (map_of.entries_sorted body.kept))
       (λ key value found.
-          let kept : CanBeKept body.kind key value = within.kept name body key value is (map_of.get-entries body.kept key ∙ found) in
-          (kept.written_key, kept.written_value)))
+      let kept : CanBeKept body.kind key value = within.kept name body key value is (map_of.get-entries body.kept key ∙ found) in
+      (kept.written_key, kept.written_value)))
 
   node_texts : (name : Name) (body : Body) → map_of.get g.nodes name ≡ Some body → NodeTexts CanBeWritten (node_entry (name, body))
   node_texts name body is = (name_at name body is, pairs_written body (within.typed.kinds name body is) (kept_at name body is))
@@ -172,8 +172,7 @@ module _ (g : NamedGraph) (within : CanBeRead g) where
   edge_texts target source is =
       let wire : IsWire g source target = within.typed.wires target source is in
       let out : source.port < 100 = omega (arith, few_ports wire.from.kind Outs (within.typed.kinds source.node wire.from wire.is_from), port_get-few (outs wire.from.kind) source.port wire.shape wire.leaves) in
-      let into : target.port < 100 = omega (arith, few_ports wire.to.kind Ins (within.typed.kinds target.node wire.to wire.is_to), port_get-few (ins wire.to.kind) target.port wire.shape wire.enters) in
-      (
+      let into : target.port < 100 = omega (arith, few_ports wire.to.kind Ins (within.typed.kinds target.node wire.to wire.is_to), port_get-few (ins wire.to.kind) target.port wire.shape wire.enters) in (
         name_at source.node wire.from wire.is_from,
         name_at target.node wire.to wire.is_to,
         (

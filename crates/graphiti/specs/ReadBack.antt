@@ -30,15 +30,18 @@ KeptCanBeRead g =
 abbrev pub PortsHaveOneField : NamedGraph → Type 0
 PortsHaveOneField g = (name : Name) (body : Body) → map.get g.nodes name ≡ Some body → HasOneField body.kind
 
--- within the limits of reading: what a plain document asks of its graph, and what its kept texts must be for their printed pairs to say them again
+-- within the limits of reading
 pub record CanBeRead (g : NamedGraph) : Type 0 where
+  -- each plain document's graph is so
   pub typed : IsTyped g
-  pub names : IsNamed g
   pub few : map.len g.nodes ≤ 65536
   pub one_field : PortsHaveOneField g
+  -- and has such names; they hold neither a double quote nor a backslash, so they stand in quotes as they are
+  pub names : IsNamed g
+  -- the printed pair of a kept attribute says this attribute, and no pair of the kind
   pub kept : KeptCanBeRead g
 
--- the canonical text of a graph reads back to the graph
+-- the canonical text of a graph is an input of the graph, however long it is
 abbrev pub TextReadsBack : Type 0
 TextReadsBack = (g : NamedGraph) → CanBeRead g → IsInputOf g (text_of g)
 
