@@ -2,7 +2,7 @@ ghost use Rattle.std.specs.Prelude.{◌≡◌, ◌≤◌, length, IfSome, MatchR
 ghost use Rattle.std.specs.List.{prefix_len};
 ghost use Rattle.dot_text.specs.Lexical.{is_blank, is_in_line, begins_line};
 ghost use Rattle.dot_text.specs.Blanks.{SkipsTo, SkipFails};
-ghost use Rattle.dot_text.specs.Skip.{IsSkip, block_len_of};
+ghost use Rattle.dot_text.specs.Skip.{BeginsAs, block_len_of};
 
 /// What bytes begin with, as far as blanks and comments go.
 enum Skip {
@@ -40,7 +40,7 @@ fn begins_line(bytes: &[u8], place: usize) -> bool
 
 /// What the bytes begin with, where `line` says that a line begins at them.
 fn skip_of(bytes: &[u8], line: bool) -> Skip
-    ensures { IsSkip line bytes.now result }
+    ensures { BeginsAs line bytes.now result }
 {
     match bytes.first() {
         Some(byte) if is_blank(*byte) => Skip::Bytes(1),
