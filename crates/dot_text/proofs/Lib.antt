@@ -20,5 +20,7 @@ pub mod BlankStarts
 pub mod Utf8
 pub mod Quoted
 pub mod Slices
-pub mod Items
-pub mod Pushes
+pub mod Prefixes
+pub mod Staying
+pub mod Fronts
+pub mod Answered
