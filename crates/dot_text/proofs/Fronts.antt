@@ -1,5 +1,5 @@
 -- What stands at a place, as its item is read.
-use Rattle.std.proofs.Common.{◌≡◌, ℕ, ◌+◌, ◌<◌, ◌≤◌, refl, sym, ap, subst, ◌∙◌, List, [], ◌∷◌, ◌++◌, Option, Some, None, length, drop, get_or, slice_range, arith, drop-cons, add-one}
+use Rattle.std.proofs.Common.{◌≡◌, ℕ, ◌+◌, ◌<◌, ◌≤◌, sym, ap, subst, ◌∙◌, List, [], ◌∷◌, Option, Some, None, length, drop, get_or, slice_range, arith, drop-cons, add-one}
 use Rattle.std.specs.Option.{option_map}
 use Rattle.dot_text.specs.declared.scan.Mode.{Mode}
 use Rattle.dot_text.specs.declared.scan.Item.{Item}

@@ -1,5 +1,5 @@
 -- What stands at the front of an item whose first bytes have been read.
-use Rattle.std.specs.Prelude.{ℕ, ◌==◌, Bool, false, if◌then◌else◌, List, [], ◌∷◌, ◌++◌, Option, Some, None}
+use Rattle.std.specs.Prelude.{ℕ, ◌==◌, false, if◌then◌else◌, List, [], ◌∷◌, ◌++◌, Option, Some, None}
 use Rattle.dot_text.specs.Tokens.{Id, Arrow}
 use Rattle.dot_text.specs.Lexical.{is_in_name, is_by_numeral, is_in_line, is_numeral}
 use Rattle.dot_text.specs.Scanner.{Cut, before, run_of, Front, Skips, Gives, Faulty, block_of, Quoted, quoted_of, gives_name}

@@ -1,5 +1,5 @@
 -- Bytes that leave a reader within the same item.
-use Rattle.std.specs.Prelude.{ℕ, ◌==◌, Bool, true, false, not, List, ◌++◌}
+use Rattle.std.specs.Prelude.{ℕ, ◌==◌, Bool, false, not, List, ◌++◌}
 use Rattle.dot_text.specs.Lexical.{is_in_name, is_by_numeral, is_in_line, is_plain}
 use Rattle.dot_text.specs.Stream.{Mode, InName, InNumber, InQuotes, InLine, InBlock}
 

@@ -1,4 +1,4 @@
-use Rattle.std.proofs.Common.{◌≡◌, ℕ, ◌+◌, sym, ap, subst, ◌∙◌, IfOk, arith, get_or}
+use Rattle.std.proofs.Common.{◌≡◌, sym, ap, subst, ◌∙◌, IfOk, arith, get_or}
 use Rattle.dot_text.specs.Stream.{starts}
 use Rattle.dot_text.specs.Scans.{Keeps, KeepsItem}
 use Rattle.dot_text.specs.Readers.{front_of}

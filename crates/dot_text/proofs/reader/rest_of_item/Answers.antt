@@ -1,12 +1,11 @@
-use Rattle.std.proofs.Common.{◌≡◌, ℕ, ◌+◌, ◌<◌, ◌≤◌, sym, subst, ◌∙◌, List, length, drop, slice_range, get_or, None, Some, arith}
+use Rattle.std.proofs.Common.{◌≡◌, ℕ, ◌+◌, ◌<◌, sym, subst, ◌∙◌, List, drop, slice_range, arith}
 use Rattle.std.specs.List.{prefix_len}
 use Rattle.std.specs.Option.{option_map}
-use Rattle.dot_text.specs.declared.scan.Mode.{Mode}
 use Rattle.dot_text.specs.Scanner.{Front}
 use Rattle.dot_text.specs.Stream as stream
 use Rattle.dot_text.specs.Rests.{rest_front}
 use Rattle.dot_text.specs.Runs.{stays, stayed}
-use Rattle.dot_text.specs.Scans.{Keeps, KeepsItem, mode_of}
+use Rattle.dot_text.specs.Scans.{Keeps, KeepsItem}
 use Rattle.dot_text.specs.Readers.{front_of}
 use Rattle.dot_text.proofs.Slices.{slice_join, slice_more, drop_whole}
 use Rattle.dot_text.proofs.Staying.{run_rests}
