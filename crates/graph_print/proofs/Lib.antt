@@ -3,4 +3,6 @@ pub mod EntryLists
 pub mod WireOrder
 pub mod WholeDocument
 pub mod PortsInOrder
+mod WiresInOrder
+mod Markers
 pub mod KeptOrder

@@ -1,20 +1,38 @@
 -- The canonical text of a graph: the lines of its canonical document.
-use Rattle.std.specs.Prelude.{ℕ, List, [], ◌∷◌, ◌++◌, map, codes}
+use Rattle.std.specs.Prelude.{ℕ, zero, suc, ◌+◌, ◌==◌, false, List, [], ◌∷◌, ◌++◌, Option, Some, None, map, codes, if◌then◌else◌}
+use Rattle.std.specs.Fmt.{decimal, digits}
 use Rattle.std.specs.FinMap.{entries}
 use Rattle.port_types.specs.declared.side.Side.{Side}
 use Rattle.port_types.specs.declared.side.Side.TheVariants.{Ins, Outs}
-use Rattle.port_types.specs.PortText.{side_word, port_name, ports_text}
+use Rattle.op_table.specs.declared.op.Op.{Op}
+use Rattle.op_table.specs.declared.op.Op.TheVariants.{Select}
+use Rattle.op_table.specs.Operator.{graph_word}
+use Rattle.port_types.specs.declared.port.Port as printed_port
+use Rattle.port_types.specs.PortText.{side_word, port_name, marked_ports_text}
 use Rattle.dot_text.specs.Grammar.{Pair}
 use Rattle.dot_text.specs.Printing.{printed}
 use Rattle.dot_text.specs.declared.doc.Doc.{Doc}
 use Rattle.dot_text.specs.declared.doc.DocNode.{DocNode}
 use Rattle.dot_text.specs.declared.doc.DocEdge.{DocEdge}
 use Rattle.graph_core.specs.declared.kind.Kind.{Kind}
-use Rattle.graph_core.specs.declared.kind.Kind.TheVariants.{Entry, Exit, Buffer, Fork}
+use Rattle.graph_core.specs.declared.kind.Kind.TheVariants.{Entry, Exit, Buffer, Fork, Join, Split, Operator, Constant, Source0, Sink0, Mux, Branch, Merge, CtrlMerge, Init, Tagger}
 use Rattle.graph_core.specs.Name.{Name, Port}
-use Rattle.graph_core.specs.Kind.{Shape, ins, outs}
+use Rattle.graph_core.specs.Kind.{Shape, ports}
 use Rattle.graph_core.specs.Node.{Body}
 use Rattle.graph_core.specs.NamedGraph.{NamedGraph}
+
+-- a port with its marker, if it has one
+abbrev pub PrintedPort : Type 0
+PrintedPort = printed_port.Port
+
+-- `0x` and lower-case digits without leading zeros
+abbrev pub hexadecimal : ℕ → List ℕ
+hexadecimal value = codes "0x" ++ digits 16 false value
+
+-- the mark of an Init, where it has one
+abbrev pub mark_pairs : ℕ → List Pair
+mark_pairs zero = []
+mark_pairs (suc mark) = (codes "ooo", decimal (suc mark)) ∷ []
 
 -- the table of kinds: the word of the type, and the attributes that the kind alone owns, in the order of print
 abbrev pub kind_row : Kind → List ℕ × List Pair
@@ -22,6 +40,18 @@ kind_row (Entry shape) = (codes "Entry", [])
 kind_row (Exit shape) = (codes "Exit", [])
 kind_row (Buffer shape) = (codes "Buffer", [])
 kind_row (Fork shape count) = (codes "Fork", [])
+kind_row (Join shapes) = (codes "Join", [])
+kind_row (Split shapes) = (codes "Split", [])
+kind_row (Operator op widths width) = (codes "Operator", (codes "op", graph_word op) ∷ [])
+kind_row (Constant shape width value) = (codes "Constant", (codes "value", hexadecimal value) ∷ [])
+kind_row (Source0 shape) = (codes "Source", [])
+kind_row (Sink0 shape) = (codes "Sink", [])
+kind_row (Mux shape) = (codes "Mux", [])
+kind_row (Branch shape) = (codes "Branch", [])
+kind_row (Merge shape count) = (codes "Merge", [])
+kind_row (CtrlMerge shape count width) = (codes "CntrlMerge", [])
+kind_row (Init value mark) = (codes "Init", (codes "value", hexadecimal value) ∷ mark_pairs mark)
+kind_row (Tagger shape tags) = (codes "Tagger", (codes "tags", decimal tags) ∷ [])
 
 abbrev pub kind_word : Kind → List ℕ
 kind_word kind = (kind_row kind).0
@@ -29,14 +59,52 @@ kind_word kind = (kind_row kind).0
 abbrev pub own_pairs : Kind → List Pair
 own_pairs kind = (kind_row kind).1
 
+-- The markers of ports: `?` where a condition or a choice is, `+` and `-` at what it chooses between.
+
+abbrev pub condition : Option ℕ
+condition = Some 63
+
+abbrev pub yes : Option ℕ
+yes = Some 43
+
+abbrev pub no : Option ℕ
+no = Some 45
+
+-- the marker of the port of this number
+abbrev pub select_marker : ℕ → Option ℕ
+select_marker number = if number == 1 then condition else (if number == 2 then yes else no)
+
+abbrev pub operand_marker : Op → ℕ → Option ℕ
+operand_marker Select number = select_marker number
+operand_marker _ number = None
+
+abbrev pub marker : Kind → Side → ℕ → Option ℕ
+marker (Operator op widths width) Ins number = operand_marker op number
+marker (Mux shape) Ins number = if number == 1 then condition else None
+marker (Branch shape) Ins number = if number == 2 then condition else None
+marker (Branch shape) Outs number = if number == 1 then yes else no
+marker (CtrlMerge shape count width) Outs number = if number == 2 then condition else None
+marker kind side number = None
+
+-- the ports of these shapes, from this number on, with their markers
+abbrev pub marked_from : Kind → Side → ℕ → List Shape → List PrintedPort
+marked_from kind side number [] = []
+marked_from kind side number (shape ∷ shapes) = record { marker = marker kind side number; shape = shape } ∷ marked_from kind side (number + 1) shapes
+
+abbrev pub marked_ports : Kind → Side → List PrintedPort
+marked_ports kind side = marked_from kind side 1 (ports kind side)
+
+abbrev pub printed_side : Side → List PrintedPort → List Pair
+printed_side side [] = []
+printed_side side (port ∷ ports) = (side_word side, marked_ports_text side (port ∷ ports)) ∷ []
+
 -- the ports of a side; a side without ports has no pair
-abbrev pub side_pairs : Side → List Shape → List Pair
-side_pairs side [] = []
-side_pairs side (shape ∷ shapes) = (side_word side, ports_text side (shape ∷ shapes)) ∷ []
+abbrev pub side_pairs : Kind → Side → List Pair
+side_pairs kind side = printed_side side (marked_ports kind side)
 
 -- the type, the ports, the kind's own attributes, and what is kept in the byte order of the keys
 abbrev pub pairs_of : Body → List Pair
-pairs_of body = (codes "type", kind_word body.kind) ∷ side_pairs Ins (ins body.kind) ++ side_pairs Outs (outs body.kind) ++ own_pairs body.kind ++ entries body.kept
+pairs_of body = (codes "type", kind_word body.kind) ∷ side_pairs body.kind Ins ++ side_pairs body.kind Outs ++ own_pairs body.kind ++ entries body.kept
 
 abbrev pub node_entry : Name × Body → DocNode
 node_entry node = record { name = node.0; pairs = pairs_of node.1 }

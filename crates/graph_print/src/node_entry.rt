@@ -6,7 +6,7 @@ ghost use Rattle.graph_core.specs.GraphValue.{named};
 ghost use Rattle.graph_print.specs.CanonicalText.{pairs_of, node_entry};
 
 use crate::kept::push_kept;
-use crate::kinds::kind_word;
+use crate::kinds::{kind_word, push_own};
 use crate::ports::push_side;
 use crate::texts::{push_pair, text_from};
 use dot_text::DocNode;
@@ -24,7 +24,7 @@ pub(crate) fn node_entry(alloc: Global, node: &Node) -> Result<DocNode, NoMemory
     Ok(DocNode { name, pairs })
 }
 
-/// The pairs of a node: its type, its ports, and what is kept. No kind owns more yet.
+/// The pairs of a node: its type, its ports, the attributes that its kind alone owns, and what is kept.
 fn pairs_of(alloc: Global, node: &Node) -> Result<Items<(Text, Text)>, NoMemory>
     requires { NodeOk node.now }
     ensures { IfOk result (λ pairs. pairs ≡ pairs_of (body_of node.now)) }
@@ -34,6 +34,7 @@ fn pairs_of(alloc: Global, node: &Node) -> Result<Items<(Text, Text)>, NoMemory>
     push_pair(alloc, &mut pairs, "type", word)?;
     push_side(alloc, &mut pairs, &node.kind, Side::Ins)?;
     push_side(alloc, &mut pairs, &node.kind, Side::Outs)?;
+    push_own(alloc, &mut pairs, &node.kind)?;
     push_kept(alloc, &mut pairs, node.kept.as_slice())?;
     Ok(Items::new(pairs))
 }

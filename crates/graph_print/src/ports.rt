@@ -1,13 +1,14 @@
 //! The texts of the ports of a side. The only error of each call is want of memory.
 
-ghost use Rattle.std.specs.Prelude.{◌≡◌, ◌≤◌, ◌++◌, IfOk, OnOk, length};
-ghost use Rattle.port_types.specs.PortText.{ports_text};
+ghost use Rattle.std.specs.Prelude.{◌≡◌, ◌++◌, IfOk, IsTrue, OnOk, length};
+ghost use Rattle.port_types.specs.PortGrammar.{are_marked};
 ghost use Rattle.graph_core.specs.Kind.{KindOk, ports};
-ghost use Rattle.graph_print.specs.CanonicalText.{side_pairs};
+ghost use Rattle.graph_print.specs.CanonicalText.{side_pairs, marked_ports};
 
-use crate::texts::{own_text, push_pair};
+use crate::kinds::marker;
+use crate::texts::push_pair;
 use graph_core::{Kind, inputs, outputs, port_shape};
-use port_types::{NoMemory, Shape, Side, Text, push_ports};
+use port_types::{NoMemory, Port, Side, Text, print_ports};
 use std::alloc::Global;
 
 /// Appends the pair of a side, as `in = "in1:8"`, and nothing where the side has no ports.
@@ -18,35 +19,28 @@ pub(crate) fn push_side(
     side: Side,
 ) -> Result<(), NoMemory>
     requires { KindOk kind.now }
-    ensures { OnOk result (pairs.new.items ≡ pairs.old.items ++ side_pairs side (ports kind.now side)) }
+    ensures { OnOk result (pairs.new.items ≡ pairs.old.items ++ side_pairs kind.now side) }
 {
-    let shapes = shapes_of(alloc, kind, side)?;
-    if !shapes.is_empty() {
-        push_pair(alloc, pairs, side.word(), ports_text(alloc, side, &shapes)?)?;
+    let ports = marked_ports(alloc, kind, side)?;
+    if !ports.is_empty() {
+        push_pair(alloc, pairs, side.word(), print_ports(alloc, &ports, side)?)?;
     }
     Ok(())
 }
 
-/// The text of the ports of a side, by their shapes.
-fn ports_text(alloc: Global, side: Side, shapes: &[Shape]) -> Result<Text, NoMemory>
-    requires { length shapes.now ≤ 64 }
-    ensures { IfOk result (λ text. text ≡ ports_text side shapes.now) }
-{
-    let mut text = String::new(alloc);
-    push_ports(&mut text, side, shapes)?;
-    Ok(own_text(text))
-}
-
-/// The shapes of the ports of a side.
-fn shapes_of(alloc: Global, kind: &Kind, side: Side) -> Result<Vec<Shape>, NoMemory>
+/// The ports of a side with their markers.
+fn marked_ports(alloc: Global, kind: &Kind, side: Side) -> Result<Vec<Port>, NoMemory>
     requires { KindOk kind.now }
-    ensures { IfOk result (λ shapes. shapes.items ≡ ports kind.now side) }
+    ensures ports { IfOk result (λ ports. ports.items ≡ marked_ports kind.now side) }
+    ensures marked { IfOk result (λ ports. IsTrue (are_marked ports.items)) }
 {
-    let mut shapes = Vec::new(alloc);
+    let mut ports = Vec::new(alloc);
     for number in 1..=port_count(kind, side) {
-        shapes.push(port_shape(alloc, kind, side, number)?)?;
+        let shape = port_shape(alloc, kind, side, number)?;
+        let marker = marker(kind, side, number);
+        ports.push(Port { marker, shape })?;
     }
-    Ok(shapes)
+    Ok(ports)
 }
 
 /// How many ports a node of this kind has on a side.
