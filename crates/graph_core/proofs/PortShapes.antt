@@ -6,7 +6,7 @@ use Rattle.std.proofs.lemmas.List.{length-append}
 use Rattle.std.proofs.lemmas.List.Elements.{All-append, All-nil}
 use Rattle.op_table.specs.declared.op.Op.{Op}
 use Rattle.op_table.specs.declared.op.Op.TheVariants.{Add, Sub, Mul, Udiv, Urem, Sdiv, Srem, And, Or, Xor, Shl, Lshr, Ashr, Eq, Ne, Ult, Ule, Ugt, Uge, Slt, Sle, Sgt, Sge, Select, Zext, Sext, Trunc, Ret}
-use Rattle.op_table.specs.Operator.{IsTypedOp, KeepsWidth, Compares, Chooses, Widens, Cuts, Passes}
+use Rattle.op_table.specs.Operator.{IsTypedOp, KeepsWidth, Compares, Chooses, Widens, Narrows, Passes}
 use Rattle.port_types.specs.Shape.{IsShape}
 use Rattle.port_types.specs.declared.side.Side.{Side}
 use Rattle.port_types.specs.declared.side.Side.TheVariants.{Ins, Outs}
@@ -54,8 +54,8 @@ chooses widths width h = record { all = subst (AllByRecursion (λ w. w ≤ 64)) 
 widens : (widths : List ℕ) (width : ℕ) → Widens widths width → Narrow widths width
 widens widths width (w, e, ok, also, more) = record { all = subst (AllByRecursion (λ w. w ≤ 64)) (sym e) (ok.narrow, tt); out = also.narrow }
 
-cuts : (widths : List ℕ) (width : ℕ) → Cuts widths width → Narrow widths width
-cuts widths width (w, e, ok, also, less) = record { all = subst (AllByRecursion (λ w. w ≤ 64)) (sym e) (ok.narrow, tt); out = also.narrow }
+narrows : (widths : List ℕ) (width : ℕ) → Narrows widths width → Narrow widths width
+narrows widths width (w, e, ok, also, less) = record { all = subst (AllByRecursion (λ w. w ≤ 64)) (sym e) (ok.narrow, tt); out = also.narrow }
 
 passes : (widths : List ℕ) (width : ℕ) → Passes widths width → Narrow widths width
 passes widths width h = record { all = subst (AllByRecursion (λ w. w ≤ 64)) (sym h.0) (h.1, tt); out = h.1 }
@@ -87,7 +87,7 @@ narrow Sge widths width h = compares widths width h
 narrow Select widths width h = chooses widths width h
 narrow Zext widths width h = widens widths width h
 narrow Sext widths width h = widens widths width h
-narrow Trunc widths width h = cuts widths width h
+narrow Trunc widths width h = narrows widths width h
 narrow Ret widths width h = passes widths width h
 
 operands : (widths : List ℕ) → AllByRecursion (λ w. w ≤ 64) widths → AllByRecursion IsShape (map field widths)
