@@ -1,7 +1,7 @@
 -- What a circuit drains it drains without a Buffer.
 use Rattle.std.proofs.Common.{◌≡◌, ◌≢◌, ℕ, inl, inr, refl, sym, ap, subst, ◌∙◌, if◌then◌else◌, List, [], ◌∷◌, ◌++◌, Option, Some, None, append-nil}
 use Rattle.graph_core.specs.declared.kind.Kind.{Kind}
-use Rattle.graph_core.specs.declared.kind.Kind.TheVariants.{Entry, Exit, Buffer, Fork}
+use Rattle.graph_core.specs.declared.kind.Kind.TheVariants.{Entry, Exit, Buffer, Fork, Init}
 use Rattle.graph_core.specs.Name.{Name, Port}
 use Rattle.module_sem.specs.Each.{Each}
 use Rattle.module_sem.specs.Side.{Token, share, share_from}
@@ -19,17 +19,13 @@ use Rattle.module_sem.proofs.Dropped.{Fed, Fed.straight, Fed.across, fed, fed_st
 
 -- what holds a token at the start is an Init
 initial_init : (k : Kind) (v : Token) (vs : List Token) → initial (Some k) ≡ v ∷ vs → IsInit k
-initial_init (Entry _) v vs e = let z : [] ≡ v ∷ vs = e in cc
-initial_init (Exit _) v vs e = let z : [] ≡ v ∷ vs = e in cc
-initial_init (Buffer _) v vs e = let z : [] ≡ v ∷ vs = e in cc
-initial_init (Fork _ _) v vs e = let z : [] ≡ v ∷ vs = e in cc
+initial_init (Init value mark) v vs e = tt
+initial_init _ v vs e = let z : [] ≡ v ∷ vs = e in cc
 
 -- no walk goes through an Init
 init_stays : (k : Kind) → IsInit k → PassesThrough k → ⊥
-init_stays (Entry _) h p = h
-init_stays (Exit _) h p = h
-init_stays (Buffer _) h p = h
-init_stays (Fork _ _) h p = h
+init_stays (Init value mark) h p = p
+init_stays _ h p = absurd h
 
 through_of : (k : Kind) → PassesOn k → PassesThrough k
 through_of (Buffer _) h = tt

@@ -3,6 +3,8 @@ pub mod Lists
 pub mod Steps
 pub mod Sim
 pub mod Linking
+mod Sides
+mod TaggerRow
 mod Rows
 pub mod Fitting
 pub mod Roots

