@@ -1,5 +1,5 @@
 -- A step keeps a state: where tokens and slots fit and tags differ before, they do after.
-use Rattle.std.proofs.Common.{◌≡◌, inl, inr, refl, sym, ap, subst, ◌∙◌, ◌++◌, Option, Some, None}
+use Rattle.std.proofs.Common.{◌≡◌, inl, inr, refl, sym, ap, subst, ◌∙◌, List, [], ◌∷◌, ◌++◌, Option, Some, None}
 use Rattle.op_table.specs.Laws.{ValueFits}
 use Rattle.port_types.specs.Token.{Fits}
 use Rattle.graph_core.specs.declared.kind.Kind.{Kind}
@@ -11,7 +11,7 @@ use Rattle.module_sem.specs.Side.{Token, one, share, share_from, at_port}
 use Rattle.module_sem.specs.Circuit.{Circuit, kind_of, Typed}
 use Rattle.module_sem.specs.State.{State, start, initial, SlotFits, TagsDiffer, IsStateOf}
 use Rattle.module_sem.specs.Firing.{Label, Label.Take}
-use Rattle.module_sem.specs.Run.{Step}
+use Rattle.module_sem.specs.Run.{Step, Move, Run}
 use Rattle.module_sem.proofs.Names.{name_cases}
 use Rattle.module_sem.proofs.Lists.{each_append, each_left, each_right}
 use Rattle.module_sem.proofs.Steps.{acts_at, some_inj, share_same, share_other}
@@ -77,6 +77,13 @@ start_fit_at c ty p k a ek ea (Some q) f =
 
 pub start_fits : (c : Circuit) → Typed c → IsStateOf c (start c)
 start_fits c ty = record { wires = λ p k a ek ea. start_fit_at c ty p k a ek ea (c.feeder p) refl; slots = λ n k e. tt; tags = λ n k e. tt }
+
+run_fits : ValueFits → (c : Circuit) → Typed c → (s : State) (ms : List Move) (t : State) → Run c s ms t → IsStateOf c s → IsStateOf c t
+run_fits values c ty s [] t run h = subst (IsStateOf c) run h
+run_fits values c ty s (m ∷ ms) t run h = run_fits values c ty run.0 ms t run.2 (step_fits values c ty s m.node m.label run.0 run.1 h)
+
+pub reached_fits : ValueFits → (c : Circuit) → Typed c → (ms : List Move) (t : State) → Run c (start c) ms t → IsStateOf c t
+reached_fits values c ty ms t run = run_fits values c ty (start c) ms t run (start_fits c ty)
 
 -- what is taken fits
 pub take_fits : (c : Circuit) (s : State) (n : Name) (v : Token) (a : Shape) (t : State) → c.kind_at n ≡ Some (Exit a) → Step c s n (Take v) t → IsStateOf c s → Fits a v

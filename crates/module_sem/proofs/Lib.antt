@@ -7,6 +7,7 @@ mod Sides
 mod TaggerRow
 mod Rows
 pub mod Fitting
+mod TaggerOrder
 pub mod Roots
 pub mod Resting
 pub mod Beside

@@ -1,9 +1,9 @@
 -- The laws of circuits. Each is proved of a function of this crate.
-use Rattle.std.specs.Prelude.{◌≡◌, ◌↔◌, List, [], ◌∷◌, Some}
+use Rattle.std.specs.Prelude.{◌≡◌, ◌↔◌, ℕ, drop, List, [], ◌∷◌, Some}
 use Rattle.port_types.specs.Shape.{IsShape}
 use Rattle.port_types.specs.Token.{Fits}
 use Rattle.graph_core.specs.declared.kind.Kind.{Kind}
-use Rattle.graph_core.specs.declared.kind.Kind.TheVariants.{Buffer}
+use Rattle.graph_core.specs.declared.kind.Kind.TheVariants.{Buffer, Tagger}
 use Rattle.graph_core.specs.Name.{Name, Port}
 use Rattle.graph_core.specs.Kind.{Shape}
 use Rattle.graph_core.specs.NamedGraph.{NamedGraph, IsTyped}
@@ -12,7 +12,8 @@ use Rattle.module_sem.specs.Side.{Token}
 use Rattle.module_sem.specs.Circuit.{Circuit, Typed, circuit_of}
 use Rattle.module_sem.specs.State.{State, start, IsStateOf}
 use Rattle.module_sem.specs.Firing.{Label}
-use Rattle.module_sem.specs.Run.{Step, Move, Shows}
+use Rattle.module_sem.specs.Run.{Step, Move, Run, Shows}
+use Rattle.module_sem.specs.TaggerOrder.{tags_of, tags_given, results_given}
 use Rattle.module_sem.specs.Plug.{Link, plug, CanPlug}
 use Rattle.module_sem.specs.Refines.{Refines}
 use Rattle.module_sem.specs.Buffers.{first_port, drop_node, CanDropBuffer, IsWithoutBuffer}
@@ -28,6 +29,15 @@ StartIsState = (c : Circuit) → Typed c → IsStateOf c (start c)
 abbrev pub StepKeepsState : Type 0
 StepKeepsState = (c : Circuit) → Typed c →
     (s : State) (n : Name) (l : Label) (t : State) → Step c s n l t → IsStateOf c s → IsStateOf c t
+
+-- so what a run from the start reaches is a state of the circuit
+abbrev pub RunReachesState : Type 0
+RunReachesState = (c : Circuit) → Typed c → (ms : List Move) (t : State) → Run c (start c) ms t → IsStateOf c t
+
+-- after any run the tags in the slots of a Tagger are those that it gave out, in this order, without as many of the first as it gave results
+abbrev pub TaggerKeepsOrder : Type 0
+TaggerKeepsOrder = (c : Circuit) (n : Name) (shape : Shape) (tags : ℕ) → c.kind_at n ≡ Some (Tagger shape tags) →
+    (ms : List Move) (t : State) → Run c (start c) ms t → tags_of (t.slots n) ≡ drop (results_given n ms) (tags_given n ms)
 
 -- a typed circuit refines itself
 abbrev pub RefinesItself : Type 0

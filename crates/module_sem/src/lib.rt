@@ -3,17 +3,23 @@
 //! The crate has definitions and laws, and no calls: each function has an empty body, and a law of `specs/` for its contract.
 #![tactic(auto)]
 
-ghost use Rattle.module_sem.specs.Laws.{StartIsState, StepKeepsState, RefinesItself, RefinesInSteps, RefinesAlone, PlugIsTyped, WholeRefines, DropRefines, PutRefines, CircuitIsTyped, GraphIsTyped, GraphDropRefines, GraphPutRefines, WireIsTyped, WireShowsToken, WireShowsNoOther, RootIsOne, RingHasNoRoot, RestIsOne, RestsWithoutInit, DropDrains, GraphDropDrains, WireDrains};
+ghost use Rattle.module_sem.specs.Laws.{StartIsState, StepKeepsState, RunReachesState, TaggerKeepsOrder, RefinesItself, RefinesInSteps, RefinesAlone, PlugIsTyped, WholeRefines, DropRefines, PutRefines, CircuitIsTyped, GraphIsTyped, GraphDropRefines, GraphPutRefines, WireIsTyped, WireShowsToken, WireShowsNoOther, RootIsOne, RingHasNoRoot, RestIsOne, RestsWithoutInit, DropDrains, GraphDropDrains, WireDrains};
 
 use op_table::value_fits;
 
-/// In each state that a typed circuit reaches, tokens fit the shapes of their wires.
+/// In each state that a typed circuit reaches, tokens fit the shapes of their wires, what stands in the slots of Taggers fits, and the tags of the slots of each differ.
 pub fn states_fit()
     ensures start { StartIsState }
     ensures step { StepKeepsState }
+    ensures run { RunReachesState }
 {
     value_fits();
 }
+
+/// A Tagger gives results in the order in which it gave out their tags, whatever the order in which they came back.
+pub fn tagger_keeps_order()
+    ensures { TaggerKeepsOrder }
+{}
 
 /// A typed circuit refines itself.
 pub fn refines_itself()
