@@ -29,3 +29,7 @@ mod GraphCircuits
 mod GraphBuffers
 mod LoneWire
 mod WireDrains
+mod MadeSteps
+mod Listed
+mod LoneTagger
+mod TaggerRefuses

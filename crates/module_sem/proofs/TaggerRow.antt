@@ -40,7 +40,7 @@ newest_no_tag : (other tag : ℕ) (slots : List Slot) → tag ≢ other → HasN
 newest_no_tag other tag [] ne h = (ne, tt)
 newest_no_tag other tag (slot ∷ slots) ne h = (h.0, newest_no_tag other tag slots ne h.1)
 
-newest_differs : (tag : ℕ) (slots : List Slot) → HasNoTag tag slots → TagsDiffer slots → TagsDiffer (slots ++ waiting tag ∷ [])
+pub newest_differs : (tag : ℕ) (slots : List Slot) → HasNoTag tag slots → TagsDiffer slots → TagsDiffer (slots ++ waiting tag ∷ [])
 newest_differs tag [] none h = (tt, tt)
 newest_differs tag (slot ∷ slots) none h = (newest_no_tag slot.tag tag slots (λ e. none.0 (sym e)) h.0, newest_differs tag slots none.1 h.1)
 

@@ -5,7 +5,7 @@ use Rattle.port_types.specs.Token.{Fits}
 use Rattle.graph_core.specs.declared.kind.Kind.{Kind}
 use Rattle.graph_core.specs.declared.kind.Kind.TheVariants.{Buffer, Tagger}
 use Rattle.graph_core.specs.Name.{Name, Port}
-use Rattle.graph_core.specs.Kind.{Shape}
+use Rattle.graph_core.specs.Kind.{Shape, KindOk}
 use Rattle.graph_core.specs.NamedGraph.{NamedGraph, IsTyped}
 use Rattle.module_sem.specs.Each.{Each}
 use Rattle.module_sem.specs.Side.{Token}
@@ -20,6 +20,7 @@ use Rattle.module_sem.specs.Buffers.{first_port, drop_node, CanDropBuffer, IsWit
 use Rattle.module_sem.specs.Root.{Root}
 use Rattle.module_sem.specs.Drains.{IsInit, IsRest, Drains}
 use Rattle.module_sem.specs.LoneWire.{entry_name, exit_name, lone_wire, fed, took}
+use Rattle.module_sem.specs.LoneTagger.{fresh, work, back, results, lone_tagger, fed_at, taken_at}
 
 -- what a typed circuit holds at the start fits
 abbrev pub StartIsState : Type 0
@@ -131,3 +132,21 @@ GraphDropDrains = (h g : NamedGraph) (b : Name) (ins outs : Name → List Token)
 abbrev pub WireDrains : Type 0
 WireDrains = (shape : Shape) (ins outs : Name → List Token) →
     Drains (circuit_of (lone_wire shape)) ins outs ↔ (Each (Fits shape) (ins entry_name) × (outs exit_name ≡ ins entry_name))
+
+-- a Tagger with an Entry or an Exit at each port is typed
+abbrev pub TaggerIsTyped : Type 0
+TaggerIsTyped = (shape : Shape) (tags : ℕ) → KindOk (Tagger shape tags) → IsTyped (lone_tagger shape tags)
+
+-- with two tags it gives the results in the order in which the tokens came, although the second result comes back first
+abbrev pub TaggerShowsInOrder : Type 0
+TaggerShowsInOrder = (shape : Shape) (v u a b : Token) → Fits shape v → Fits shape u → Fits shape a → Fits shape b →
+    Shows (circuit_of (lone_tagger shape 2))
+    (fed_at fresh v ∷ fed_at fresh u ∷ taken_at work (0 ∷ v) ∷ taken_at work (1 ∷ u) ∷
+    fed_at back (1 ∷ b) ∷ fed_at back (0 ∷ a) ∷ taken_at results a ∷ taken_at results b ∷ [])
+
+-- and where only the second result has come back it gives none, whatever its tags
+abbrev pub TaggerShowsNoOther : Type 0
+TaggerShowsNoOther = (shape : Shape) (tags : ℕ) (v u b y : Token) (first second : ℕ) →
+    ¬ (Shows (circuit_of (lone_tagger shape tags))
+    (fed_at fresh v ∷ fed_at fresh u ∷ taken_at work (first ∷ v) ∷ taken_at work (second ∷ u) ∷
+    fed_at back (second ∷ b) ∷ taken_at results y ∷ []))

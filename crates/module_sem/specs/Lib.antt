@@ -11,4 +11,5 @@ pub mod TaggerOrder
 pub mod Root
 pub mod Drains
 pub mod LoneWire
+pub mod LoneTagger
 pub mod Laws

@@ -3,7 +3,7 @@
 //! The crate has definitions and laws, and no calls: each function has an empty body, and a law of `specs/` for its contract.
 #![tactic(auto)]
 
-ghost use Rattle.module_sem.specs.Laws.{StartIsState, StepKeepsState, RunReachesState, TaggerKeepsOrder, RefinesItself, RefinesInSteps, RefinesAlone, PlugIsTyped, WholeRefines, DropRefines, PutRefines, CircuitIsTyped, GraphIsTyped, GraphDropRefines, GraphPutRefines, WireIsTyped, WireShowsToken, WireShowsNoOther, RootIsOne, RingHasNoRoot, RestIsOne, RestsWithoutInit, DropDrains, GraphDropDrains, WireDrains};
+ghost use Rattle.module_sem.specs.Laws.{StartIsState, StepKeepsState, RunReachesState, TaggerKeepsOrder, RefinesItself, RefinesInSteps, RefinesAlone, PlugIsTyped, WholeRefines, DropRefines, PutRefines, CircuitIsTyped, GraphIsTyped, GraphDropRefines, GraphPutRefines, WireIsTyped, WireShowsToken, WireShowsNoOther, RootIsOne, RingHasNoRoot, RestIsOne, RestsWithoutInit, DropDrains, GraphDropDrains, WireDrains, TaggerIsTyped, TaggerShowsInOrder, TaggerShowsNoOther};
 
 use op_table::value_fits;
 
@@ -96,4 +96,12 @@ pub fn buffer_keeps_drains()
 /// The definition of drains is met and refuses: a wire from an Entry to an Exit drains tokens that fit to themselves, and to nothing else.
 pub fn wire_drains_tokens()
     ensures { WireDrains }
+{}
+
+/// The definition of a Tagger is met and refuses: two tokens go out with two tags, and the results leave in their order although the second comes back first;
+/// while the first is not back, none leaves.
+pub fn tagger_shows_results()
+    ensures typed { TaggerIsTyped }
+    ensures in_order { TaggerShowsInOrder }
+    ensures no_other { TaggerShowsNoOther }
 {}
