@@ -33,3 +33,4 @@ mod MadeSteps
 mod Listed
 mod LoneTagger
 mod TaggerRefuses
+mod LoneInit

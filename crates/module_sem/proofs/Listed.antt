@@ -9,7 +9,7 @@ use Rattle.graph_core.specs.Node.{Body}
 use Rattle.module_sem.specs.Each.{Each}
 use Rattle.module_sem.specs.Circuit.{Circuit, Wire, Typed, circuit_of, kind_of_body}
 use Rattle.module_sem.specs.LoneWire.{bare}
-use Rattle.module_sem.specs.LoneTagger.{ListedNode, ListedWire, with_nodes, listed}
+use Rattle.module_sem.specs.Listed.{ListedNode, ListedWire, with_nodes, listed}
 use Rattle.module_sem.proofs.Names.{name_cases}
 use Rattle.module_sem.proofs.Steps.{some_inj}
 use Rattle.module_sem.proofs.Beside.{none_some}

@@ -13,7 +13,8 @@ use Rattle.module_sem.specs.State.{Slot, State, start}
 use Rattle.module_sem.specs.Firing.{Label, Label.Feed, Label.Take, Label.Fire, waiting, finished}
 use Rattle.module_sem.specs.Run.{Move, Run, trace, Shows}
 use Rattle.module_sem.specs.Buffers.{first_port}
-use Rattle.module_sem.specs.LoneTagger.{ListedNode, ListedWire, fresh, work, back, results, tagger, second_port, tagger_nodes, tagger_wires, lone_tagger, fed_at, taken_at}
+use Rattle.module_sem.specs.Listed.{fed_at, taken_at}
+use Rattle.module_sem.specs.LoneTagger.{fresh, work, back, results, tagger, second_port, tagger_nodes, tagger_wires, lone_tagger}
 use Rattle.module_sem.proofs.Listed.{spelled, is_spelled, InputsFed, OutputsFeed, ListedTyped, listed_typed}
 use Rattle.module_sem.proofs.GraphCircuits.{graph_typed}
 use Rattle.module_sem.proofs.Beside.{none_some}

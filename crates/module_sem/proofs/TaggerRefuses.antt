@@ -11,7 +11,8 @@ use Rattle.module_sem.specs.State.{Slot, State, start, TagsDiffer}
 use Rattle.module_sem.specs.Firing.{Label, Label.Feed, Label.Take, Label.Fire, waiting, finished, FiresTagger, Acts}
 use Rattle.module_sem.specs.Run.{Step, Move, Run, trace, Shows}
 use Rattle.module_sem.specs.Buffers.{first_port}
-use Rattle.module_sem.specs.LoneTagger.{fresh, work, back, results, tagger, second_port, tagger_nodes, tagger_wires, lone_tagger, fed_at, taken_at}
+use Rattle.module_sem.specs.Listed.{fed_at, taken_at}
+use Rattle.module_sem.specs.LoneTagger.{fresh, work, back, results, tagger, second_port, tagger_nodes, tagger_wires, lone_tagger}
 use Rattle.module_sem.proofs.Steps.{acts_at}
 use Rattle.module_sem.proofs.TaggerRow.{newest_differs}
 use Rattle.module_sem.proofs.Listed.{is_spelled, each_node}

@@ -3,12 +3,12 @@ use Rattle.std.specs.Prelude.{◌≡◌, ◌↔◌, ℕ, drop, List, [], ◌∷�
 use Rattle.port_types.specs.Shape.{IsShape}
 use Rattle.port_types.specs.Token.{Fits}
 use Rattle.graph_core.specs.declared.kind.Kind.{Kind}
-use Rattle.graph_core.specs.declared.kind.Kind.TheVariants.{Buffer, Tagger}
+use Rattle.graph_core.specs.declared.kind.Kind.TheVariants.{Buffer, Init, Tagger}
 use Rattle.graph_core.specs.Name.{Name, Port}
-use Rattle.graph_core.specs.Kind.{Shape, KindOk}
+use Rattle.graph_core.specs.Kind.{Shape, field, KindOk}
 use Rattle.graph_core.specs.NamedGraph.{NamedGraph, IsTyped}
 use Rattle.module_sem.specs.Each.{Each}
-use Rattle.module_sem.specs.Side.{Token}
+use Rattle.module_sem.specs.Side.{Token, single, one}
 use Rattle.module_sem.specs.Circuit.{Circuit, Typed, circuit_of}
 use Rattle.module_sem.specs.State.{State, start, IsStateOf}
 use Rattle.module_sem.specs.Firing.{Label}
@@ -20,7 +20,9 @@ use Rattle.module_sem.specs.Buffers.{first_port, drop_node, CanDropBuffer, IsWit
 use Rattle.module_sem.specs.Root.{Root}
 use Rattle.module_sem.specs.Drains.{IsInit, IsRest, Drains}
 use Rattle.module_sem.specs.LoneWire.{entry_name, exit_name, lone_wire, fed, took}
-use Rattle.module_sem.specs.LoneTagger.{fresh, work, back, results, lone_tagger, fed_at, taken_at}
+use Rattle.module_sem.specs.Listed.{fed_at, taken_at}
+use Rattle.module_sem.specs.LoneTagger.{fresh, work, back, results, lone_tagger}
+use Rattle.module_sem.specs.LoneInit.{bits, out, lone_init}
 
 -- what a typed circuit holds at the start fits
 abbrev pub StartIsState : Type 0
@@ -150,3 +152,16 @@ TaggerShowsNoOther = (shape : Shape) (tags : ℕ) (v u b y : Token) (first secon
     ¬ (Shows (circuit_of (lone_tagger shape tags))
     (fed_at fresh v ∷ fed_at fresh u ∷ taken_at work (first ∷ v) ∷ taken_at work (second ∷ u) ∷
     fed_at back (second ∷ b) ∷ taken_at results y ∷ []))
+
+-- an Init between an Entry and a Buffer before an Exit is typed
+abbrev pub InitIsTyped : Type 0
+InitIsTyped = (value mark : ℕ) → KindOk (Init value mark) → IsTyped (lone_init value mark)
+
+-- at rest the Init's value has passed the Buffer
+abbrev pub InitRests : Type 0
+InitRests = (value mark : ℕ) → (rest : State) × IsRest (circuit_of (lone_init value mark)) rest × (rest.wires (first_port out) ≡ one (single value))
+
+-- it drains bits to the value followed by them, and to nothing else
+abbrev pub InitDrains : Type 0
+InitDrains = (value mark : ℕ) (ins outs : Name → List Token) → KindOk (Init value mark) →
+    Drains (circuit_of (lone_init value mark)) ins outs ↔ (Each (Fits (field 1)) (ins bits) × (outs out ≡ single value ∷ ins bits))

@@ -1,33 +1,15 @@
 -- A Tagger with an Entry or an Exit at each of its ports, in which the definitions can be tried out.
 use Rattle.std.specs.Prelude.{ℕ, List, [], ◌∷◌, codes}
-use Rattle.graph_core.specs.declared.kind.Kind.{Kind}
 use Rattle.graph_core.specs.declared.kind.Kind.TheVariants.{Entry, Exit, Tagger}
 use Rattle.graph_core.specs.Name.{Name, Port}
 use Rattle.graph_core.specs.Kind.{Shape, tagged}
-use Rattle.graph_core.specs.NamedGraph.{NamedGraph, no_graph, with_node, with_wire}
-use Rattle.module_sem.specs.Side.{Token}
-use Rattle.module_sem.specs.Firing.{Label.Feed, Label.Take}
-use Rattle.module_sem.specs.Run.{Move}
+use Rattle.graph_core.specs.NamedGraph.{NamedGraph}
 use Rattle.module_sem.specs.Buffers.{first_port}
-use Rattle.module_sem.specs.LoneWire.{bare}
+use Rattle.module_sem.specs.Listed.{ListedNode, ListedWire, listed}
 
--- a node of a graph, without kept attributes, and a wire of it
-pub record ListedNode : Type 0 where
-  pub name : Name
-  pub kind : Kind
-
-pub record ListedWire : Type 0 where
-  pub source : Port
-  pub target : Port
-
-abbrev pub with_nodes : List ListedNode → NamedGraph
-with_nodes [] = no_graph
-with_nodes (node ∷ nodes) = with_node (with_nodes nodes) node.name (bare node.kind)
-
--- the graph of these nodes and wires
-abbrev pub listed : List ListedNode → List ListedWire → NamedGraph
-listed nodes [] = with_nodes nodes
-listed nodes (wire ∷ wires) = with_wire (listed nodes wires) wire.source wire.target
+-- the second port of a side
+abbrev pub second_port : Name → Port
+second_port n = record { node = n; port = 2 }
 
 -- where tokens come in and get tags, where they go to be worked on, where their results come back, and where the results leave
 abbrev pub fresh : Name
@@ -44,9 +26,6 @@ results = codes "results"
 
 abbrev pub tagger : Name
 tagger = codes "tagger"
-
-abbrev pub second_port : Name → Port
-second_port n = record { node = n; port = 2 }
 
 abbrev pub tagger_nodes : Shape → ℕ → List ListedNode
 tagger_nodes shape tags =
@@ -65,10 +44,3 @@ tagger_wires =
 
 abbrev pub lone_tagger : Shape → ℕ → NamedGraph
 lone_tagger shape tags = listed (tagger_nodes shape tags) tagger_wires
-
--- a token is fed at an Entry, and a token is taken at an Exit
-abbrev pub fed_at : Name → Token → Move
-fed_at n v = record { node = n; label = Feed v }
-
-abbrev pub taken_at : Name → Token → Move
-taken_at n v = record { node = n; label = Take v }

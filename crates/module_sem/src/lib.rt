@@ -3,7 +3,7 @@
 //! The crate has definitions and laws, and no calls: each function has an empty body, and a law of `specs/` for its contract.
 #![tactic(auto)]
 
-ghost use Rattle.module_sem.specs.Laws.{StartIsState, StepKeepsState, RunReachesState, TaggerKeepsOrder, RefinesItself, RefinesInSteps, RefinesAlone, PlugIsTyped, WholeRefines, DropRefines, PutRefines, CircuitIsTyped, GraphIsTyped, GraphDropRefines, GraphPutRefines, WireIsTyped, WireShowsToken, WireShowsNoOther, RootIsOne, RingHasNoRoot, RestIsOne, RestsWithoutInit, DropDrains, GraphDropDrains, WireDrains, TaggerIsTyped, TaggerShowsInOrder, TaggerShowsNoOther};
+ghost use Rattle.module_sem.specs.Laws.{StartIsState, StepKeepsState, RunReachesState, TaggerKeepsOrder, RefinesItself, RefinesInSteps, RefinesAlone, PlugIsTyped, WholeRefines, DropRefines, PutRefines, CircuitIsTyped, GraphIsTyped, GraphDropRefines, GraphPutRefines, WireIsTyped, WireShowsToken, WireShowsNoOther, RootIsOne, RingHasNoRoot, RestIsOne, RestsWithoutInit, DropDrains, GraphDropDrains, WireDrains, TaggerIsTyped, TaggerShowsInOrder, TaggerShowsNoOther, InitIsTyped, InitRests, InitDrains};
 
 use op_table::value_fits;
 
@@ -104,4 +104,12 @@ pub fn tagger_shows_results()
     ensures typed { TaggerIsTyped }
     ensures in_order { TaggerShowsInOrder }
     ensures no_other { TaggerShowsNoOther }
+{}
+
+/// The definitions of rest and drains are met and refuse where an Init leads: its value passes the Buffer behind it, and bits drain to the value followed by them,
+/// and to nothing else.
+pub fn init_drains_bits()
+    ensures typed { InitIsTyped }
+    ensures rests { InitRests }
+    ensures drains { InitDrains }
 {}
