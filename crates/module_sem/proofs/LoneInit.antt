@@ -11,7 +11,7 @@ use Rattle.module_sem.specs.Each.{Each}
 use Rattle.module_sem.specs.Side.{Token, single, one, at_port, share, share_from}
 use Rattle.module_sem.specs.Circuit.{Circuit, Typed, circuit_of, kind_of}
 use Rattle.module_sem.specs.State.{Slot, State, start, initial}
-use Rattle.module_sem.specs.Firing.{Label.Fire, Acts, Fires}
+use Rattle.module_sem.specs.Firing.{Label.Fire, Fires}
 use Rattle.module_sem.specs.Run.{Step, Firing, Firings}
 use Rattle.module_sem.specs.Buffers.{first_port}
 use Rattle.module_sem.specs.Root.{Root.here}
@@ -74,23 +74,31 @@ module _ (value mark : ℕ) where
         kinds = (bit_ok, (ok, (bit_ok, (bit_ok, tt))));
         are_wires = (
           record { target = Init value mark; source = Entry (field 1); shape = field 1; is_target = refl; is_source = refl; enters = refl; leaves = refl },
-          (record { target = Buffer (field 1); source = Init value mark; shape = field 1; is_target = refl; is_source = refl; enters = refl; leaves = refl },
-          (record { target = Exit (field 1); source = Buffer (field 1); shape = field 1; is_target = refl; is_source = refl; enters = refl; leaves = refl }, tt)),
+          (
+            record { target = Buffer (field 1); source = Init value mark; shape = field 1; is_target = refl; is_source = refl; enters = refl; leaves = refl },
+            (record { target = Exit (field 1); source = Buffer (field 1); shape = field 1; is_target = refl; is_source = refl; enters = refl; leaves = refl }, tt),
+          ),
         );
         inputs = (
           no_in bits (Entry (field 1)) refl,
-          (one_in init (Init value mark) refl (first_port bits) refl,
-          (one_in passer (Buffer (field 1)) refl (first_port init) refl, (one_in out (Exit (field 1)) refl (first_port passer) refl, tt))),
+          (
+            one_in init (Init value mark) refl (first_port bits) refl,
+            (one_in passer (Buffer (field 1)) refl (first_port init) refl, (one_in out (Exit (field 1)) refl (first_port passer) refl, tt)),
+          ),
         );
         outputs = (
           one_out bits (Entry (field 1)) refl (first_port init) refl,
-          (one_out init (Init value mark) refl (first_port passer) refl,
-          (one_out passer (Buffer (field 1)) refl (first_port out) refl, (no_out out (Exit (field 1)) refl, tt))),
+          (
+            one_out init (Init value mark) refl (first_port passer) refl,
+            (one_out passer (Buffer (field 1)) refl (first_port out) refl, (no_out out (Exit (field 1)) refl, tt)),
+          ),
         );
         once = (
           ((λ e. refl), (differ _ _ _ _ (λ e. bits_init (sym e)), (differ _ _ _ _ (λ e. bits_passer (sym e)), tt))),
-          ((differ _ _ _ _ bits_init, ((λ e. refl), (differ _ _ _ _ (λ e. init_passer (sym e)), tt))),
-          ((differ _ _ _ _ bits_passer, (differ _ _ _ _ init_passer, ((λ e. refl), tt))), tt)),
+          (
+            (differ _ _ _ _ bits_init, ((λ e. refl), (differ _ _ _ _ (λ e. init_passer (sym e)), tt))),
+            ((differ _ _ _ _ bits_passer, (differ _ _ _ _ init_passer, ((λ e. refl), tt))), tt),
+          ),
         );
         size = 7;
         names = (omega arith, (omega arith, (omega arith, (omega arith, tt))));
@@ -289,8 +297,11 @@ module _ (value mark : ℕ) where
   flush (v ∷ xs) zs =
       let (fs, run) = flush xs (zs ++ one v) in (
         record { node = init; choice = 0 } ∷ record { node = passer; choice = 0 } ∷ fs,
-        (at xs (one v) zs, init_passes v xs [] zs,
-        (at xs [] (zs ++ one v), passer_passes v xs [] zs, subst (λ z. Firings c (at xs [] (zs ++ one v)) fs (at [] [] z)) (append_assoc zs (one v) xs) run)),
+        (
+          at xs (one v) zs,
+          init_passes v xs [] zs,
+          (at xs [] (zs ++ one v), passer_passes v xs [] zs, subst (λ z. Firings c (at xs [] (zs ++ one v)) fs (at [] [] z)) (append_assoc zs (one v) xs) run),
+        ),
       )
 
   abbrev shape_of : Kind → Shape
@@ -318,8 +329,10 @@ module _ (value mark : ℕ) where
     at_exit : Each (Fits (field 1)) (gotten out) → one (single value) ++ given bits ≡ gotten out → Each (λ node. AtExit node.name node.kind) (init_nodes value mark)
     at_exit fit is = (
       (λ a e. let z : Entry (field 1) ≡ Exit a = e in cc),
-      ((λ a e. let z : Init value mark ≡ Exit a = e in cc),
-      ((λ a e. let z : Buffer (field 1) ≡ Exit a = e in cc), ((λ a e. (subst (λ z. Each (Fits z) (gotten out)) (ap shape_of e) fit, is)), tt))),
+      (
+        (λ a e. let z : Init value mark ≡ Exit a = e in cc),
+        ((λ a e. let z : Buffer (field 1) ≡ Exit a = e in cc), ((λ a e. (subst (λ z. Each (Fits z) (gotten out)) (ap shape_of e) fit, is)), tt)),
+      ),
     )
 
     at_rest : (p : Port) → (k : Kind) → c.kind_at p.node ≡ Some k → IsNoExit k → end.wires p ≡ rest.wires p
@@ -390,7 +403,7 @@ module _ (value mark : ℕ) where
         let kept : single value ∷ given bits ≡ all_of d.end = sym (ap all_of (loaded_is given)) ∙ firings_keep (loaded c given) d.firings d.end d.leads in (
           d.fit_in bits (field 1) refl,
           sym (d.exits out (field 1) refl) ∙ sym (append-nil (d.end.wires (first_port out)))
-          ∙ (λ i. d.end.wires (first_port out) ++ (sym no_passer i ++ sym no_init i)) ∙ sym kept,
+              ∙ (λ i. d.end.wires (first_port out) ++ (sym no_passer i ++ sym no_init i)) ∙ sym kept,
         )
 
 pub init_drains : (value mark : ℕ) (given gotten : Name → List Token) → KindOk (Init value mark) → Each (Fits (field 1)) (given bits) → gotten out ≡ single value ∷ given bits →

@@ -1,5 +1,5 @@
 -- A Tagger alone: it is typed, and gives results in the order in which tokens came.
-use Rattle.std.proofs.Common.{◌≡◌, ◌≢◌, ℕ, zero, suc, ◌<◌, inl, inr, refl, sym, ap, subst, ◌∙◌, length, List, [], ◌∷◌, ◌++◌, Some, None, arith}
+use Rattle.std.proofs.Common.{◌≡◌, ◌≢◌, ℕ, zero, suc, refl, sym, ap, subst, ◌∙◌, List, [], ◌∷◌, Some, None, arith}
 use Rattle.port_types.specs.Token.{Fits}
 use Rattle.graph_core.specs.declared.kind.Kind.{Kind}
 use Rattle.graph_core.specs.declared.kind.Kind.TheVariants.{Entry, Exit, Tagger}
@@ -9,16 +9,15 @@ use Rattle.graph_core.specs.NamedGraph.{IsTyped}
 use Rattle.module_sem.specs.Each.{Each}
 use Rattle.module_sem.specs.Side.{Token, one}
 use Rattle.module_sem.specs.Circuit.{Circuit, Typed, circuit_of}
-use Rattle.module_sem.specs.State.{Slot, State, start}
-use Rattle.module_sem.specs.Firing.{Label, Label.Feed, Label.Take, Label.Fire, waiting, finished}
-use Rattle.module_sem.specs.Run.{Move, Run, trace, Shows}
+use Rattle.module_sem.specs.State.{Slot, start}
+use Rattle.module_sem.specs.Firing.{Label.Feed, Label.Take, Label.Fire, waiting, finished}
+use Rattle.module_sem.specs.Run.{Move, Shows}
 use Rattle.module_sem.specs.Buffers.{first_port}
 use Rattle.module_sem.specs.Listed.{fed_at, taken_at}
 use Rattle.module_sem.specs.LoneTagger.{fresh, work, back, results, tagger, second_port, tagger_nodes, tagger_wires, lone_tagger}
-use Rattle.module_sem.proofs.Listed.{spelled, is_spelled, InputsFed, OutputsFeed, ListedTyped, listed_typed}
+use Rattle.module_sem.proofs.Listed.{spelled, is_spelled, InputsFed, OutputsFeed, listed_typed}
 use Rattle.module_sem.proofs.GraphCircuits.{graph_typed}
-use Rattle.module_sem.proofs.Beside.{none_some}
-use Rattle.module_sem.proofs.MadeSteps.{Deed, Can, CanAll, after, after_all, moves_of, run_made}
+use Rattle.module_sem.proofs.MadeSteps.{Deed, CanAll, after_all, moves_of, run_made}
 
 abbrev pub alone : Shape → ℕ → Circuit
 alone shape tags = spelled (tagger_nodes shape tags) tagger_wires
@@ -106,21 +105,33 @@ alone_typed shape tags ok =
       kinds = (ok.0, (ok.1, (ok.1, (ok.0, (ok, tt)))));
       are_wires = (
         record { target = Tagger shape tags; source = Entry shape; shape = shape; is_target = refl; is_source = refl; enters = refl; leaves = refl },
-        (record { target = Exit (tagged tags shape); source = Tagger shape tags; shape = tagged tags shape; is_target = refl; is_source = refl; enters = refl; leaves = refl },
-        (record { target = Tagger shape tags; source = Entry (tagged tags shape); shape = tagged tags shape; is_target = refl; is_source = refl; enters = refl; leaves = refl },
-        (record { target = Exit shape; source = Tagger shape tags; shape = shape; is_target = refl; is_source = refl; enters = refl; leaves = refl }, tt))),
+        (
+          record { target = Exit (tagged tags shape); source = Tagger shape tags; shape = tagged tags shape; is_target = refl; is_source = refl; enters = refl; leaves = refl },
+          (
+            record { target = Tagger shape tags; source = Entry (tagged tags shape); shape = tagged tags shape; is_target = refl; is_source = refl; enters = refl; leaves = refl },
+            (record { target = Exit shape; source = Tagger shape tags; shape = shape; is_target = refl; is_source = refl; enters = refl; leaves = refl }, tt),
+          ),
+        ),
       );
       inputs = (
         no_port shape tags (Entry shape) fresh refl,
-        (one_in shape tags work (tagged tags shape) (first_port tagger) refl,
-        (no_port shape tags (Entry (tagged tags shape)) back refl,
-        (one_in shape tags results shape (second_port tagger) refl, (tagger_in shape tags, tt)))),
+        (
+          one_in shape tags work (tagged tags shape) (first_port tagger) refl,
+          (
+            no_port shape tags (Entry (tagged tags shape)) back refl,
+            (one_in shape tags results shape (second_port tagger) refl, (tagger_in shape tags, tt)),
+          ),
+        ),
       );
       outputs = (
         one_out shape tags fresh shape (first_port tagger) refl,
-        (no_out shape tags (Exit (tagged tags shape)) work refl,
-        (one_out shape tags back (tagged tags shape) (second_port tagger) refl,
-        (no_out shape tags (Exit shape) results refl, (tagger_out shape tags, tt)))),
+        (
+          no_out shape tags (Exit (tagged tags shape)) work refl,
+          (
+            one_out shape tags back (tagged tags shape) (second_port tagger) refl,
+            (no_out shape tags (Exit shape) results refl, (tagger_out shape tags, tt)),
+          ),
+        ),
       );
       once = (by_fresh, (by_first, (by_back, (by_second, tt))));
       size = 8;
@@ -171,19 +182,43 @@ module _ (shape : Shape) (v u a b : Token) (fv : Fits shape v) (fu : Fits shape 
   unfolding feeding taking tagging returning giving
   can_all = (
     record { is_kind = refl; acts = (fv, refl, refl, refl); stands = tt },
-    (record { is_kind = refl; acts = (fu, refl, refl, refl); stands = tt },
-    (record { is_kind = refl; acts = (v, omega arith, tt, refl, refl, refl); stands = ((one u, refl), tt) },
-    (record { is_kind = refl; acts = (u, omega arith, ((λ e. cc), tt), refl, refl, refl); stands = (([], refl), tt) },
-    (record { is_kind = refl; acts = (refl, refl, refl); stands = ((one (1 ∷ u), refl), tt) },
-    (record { is_kind = refl; acts = (refl, refl, refl); stands = (([], refl), tt) },
-    (record { is_kind = refl; acts = ((omega arith, fb), refl, refl, refl); stands = tt },
-    (record { is_kind = refl; acts = ((omega arith, fa), refl, refl, refl); stands = tt },
-    (record { is_kind = refl; acts = (1, b, waiting 0 ∷ [], [], refl, refl, refl, refl); stands = (([], refl), ((one (0 ∷ a), refl), tt)) },
-    (record { is_kind = refl; acts = (0, a, [], finished 1 b ∷ [], refl, refl, refl, refl); stands = (([], refl), (([], refl), tt)) },
-    (record { is_kind = refl; acts = (0, a, refl, refl, refl); stands = tt },
-    (record { is_kind = refl; acts = (1, b, refl, refl, refl); stands = tt },
-    (record { is_kind = refl; acts = (refl, refl, refl); stands = ((one b, refl), tt) },
-    (record { is_kind = refl; acts = (refl, refl, refl); stands = (([], refl), tt) }, tt))))))))))))),
+    (
+      record { is_kind = refl; acts = (fu, refl, refl, refl); stands = tt },
+      (
+        record { is_kind = refl; acts = (v, omega arith, tt, refl, refl, refl); stands = ((one u, refl), tt) },
+        (
+          record { is_kind = refl; acts = (u, omega arith, ((λ e. cc), tt), refl, refl, refl); stands = (([], refl), tt) },
+          (
+            record { is_kind = refl; acts = (refl, refl, refl); stands = ((one (1 ∷ u), refl), tt) },
+            (
+              record { is_kind = refl; acts = (refl, refl, refl); stands = (([], refl), tt) },
+              (
+                record { is_kind = refl; acts = ((omega arith, fb), refl, refl, refl); stands = tt },
+                (
+                  record { is_kind = refl; acts = ((omega arith, fa), refl, refl, refl); stands = tt },
+                  (
+                    record { is_kind = refl; acts = (1, b, waiting 0 ∷ [], [], refl, refl, refl, refl); stands = (([], refl), ((one (0 ∷ a), refl), tt)) },
+                    (
+                      record { is_kind = refl; acts = (0, a, [], finished 1 b ∷ [], refl, refl, refl, refl); stands = (([], refl), (([], refl), tt)) },
+                      (
+                        record { is_kind = refl; acts = (0, a, refl, refl, refl); stands = tt },
+                        (
+                          record { is_kind = refl; acts = (1, b, refl, refl, refl); stands = tt },
+                          (
+                            record { is_kind = refl; acts = (refl, refl, refl); stands = ((one b, refl), tt) },
+                            (record { is_kind = refl; acts = (refl, refl, refl); stands = (([], refl), tt) }, tt),
+                          ),
+                        ),
+                      ),
+                    ),
+                  ),
+                ),
+              ),
+            ),
+          ),
+        ),
+      ),
+    ),
   )
 
   abbrev seen : List Move

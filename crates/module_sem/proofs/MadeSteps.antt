@@ -1,9 +1,9 @@
 -- A step, and a run, told by what each node takes and gives: the states follow.
-use Rattle.std.proofs.Common.{◌≡◌, ◌≢◌, ℕ, zero, suc, inl, inr, refl, sym, ap, subst, ◌∙◌, if◌then◌else◌, bytes_eq, length, map, drop, List, [], ◌∷◌, ◌++◌, Some}
+use Rattle.std.proofs.Common.{◌≡◌, ℕ, zero, suc, inl, inr, refl, sym, ap, subst, ◌∙◌, if◌then◌else◌, bytes_eq, length, map, drop, List, [], ◌∷◌, ◌++◌, Some}
 use Rattle.std.proofs.Math.Seq.{drop-append_seam}
 use Rattle.graph_core.specs.declared.kind.Kind.{Kind}
 use Rattle.graph_core.specs.Name.{Name, Port}
-use Rattle.module_sem.specs.Side.{Token, one, at_port, share, share_from}
+use Rattle.module_sem.specs.Side.{Token, at_port, share, share_from}
 use Rattle.module_sem.specs.Circuit.{Circuit}
 use Rattle.module_sem.specs.State.{Slot, State}
 use Rattle.module_sem.specs.Firing.{Label, Acts}

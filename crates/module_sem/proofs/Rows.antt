@@ -1,5 +1,5 @@
 -- A node of each kind keeps a state: where what it takes fits, what it gives fits, and its slots do, with tags that differ.
-use Rattle.std.proofs.Common.{◌≡◌, ◌^◌, ◌%◌, ◌<◌, ◌≤◌, ◌⊎◌, inl, inr, ℕ, zero, suc, refl, sym, subst, ◌∙◌, map, length, replicate, List, [], ◌∷◌, ◌++◌, Some, None, All, arith, mod-lt}
+use Rattle.std.proofs.Common.{◌≡◌, ◌^◌, ◌%◌, ◌<◌, ◌≤◌, inl, inr, ℕ, zero, suc, sym, subst, map, length, replicate, List, [], ◌∷◌, ◌++◌, Some, None, arith, mod-lt}
 use Rattle.std.specs.List.{concat, zip}
 use Rattle.std.proofs.lemmas.Nat.{pow_pos}
 use Rattle.std.proofs.lemmas.List.Elements.{All-nil, All-cons}

@@ -1,5 +1,5 @@
 -- In each run the slots of a Tagger are a queue: tags come in at its end and leave at its front.
-use Rattle.std.proofs.Common.{◌≡◌, ℕ, zero, suc, inl, inr, refl, sym, ap, subst, ◌∙◌, map, drop, if◌then◌else◌, List, [], ◌∷◌, ◌++◌, Some, append-nil, append_assoc}
+use Rattle.std.proofs.Common.{◌≡◌, ℕ, zero, suc, inl, inr, refl, sym, ap, subst, ◌∙◌, drop, if◌then◌else◌, List, [], ◌∷◌, ◌++◌, Some, append-nil, append_assoc}
 use Rattle.graph_core.specs.declared.kind.Kind.TheVariants.{Tagger}
 use Rattle.graph_core.specs.Name.{Name}
 use Rattle.graph_core.specs.Kind.{Shape}
@@ -35,7 +35,7 @@ one_firing shape tags (Fire (suc (suc tag))) old taken given new (v, below, none
 
 module _ (c : Circuit) (n : Name) (shape : Shape) (tags : ℕ) (is_tagger : c.kind_at n ≡ Some (Tagger shape tags)) where
   in_order : (s : State) (ms : List Move) (t : State) → Run c s ms t → tags_of (t.slots n) ≡ drop (results_given n ms) (tags_of (s.slots n) ++ tags_given n ms)
-  in_order s [] t run = sym (append-nil (tags_of (t.slots n)) ) ∙ ap (λ (z : State). tags_of (z.slots n) ++ []) (sym run)
+  in_order s [] t run = sym (append-nil (tags_of (t.slots n))) ∙ ap (λ (z : State). tags_of (z.slots n) ++ []) (sym run)
   in_order s (m ∷ ms) t run =
       in_order run.0 ms t run.2
       ∙ elim (name_cases m.node n) [

@@ -1,11 +1,11 @@
 -- A Tagger alone gives no result while the oldest token has none.
-use Rattle.std.proofs.Common.{◌≡◌, ◌≢◌, ℕ, zero, suc, ◌⊎◌, inl, inr, refl, sym, ap, subst, ◌∙◌, map, List, [], ◌∷◌, ◌++◌, Option, Some, None, append-nil, append_assoc}
+use Rattle.std.proofs.Common.{◌≡◌, ◌≢◌, ℕ, zero, suc, ◌⊎◌, inl, inr, refl, sym, ap, subst, ◌∙◌, map, List, [], ◌∷◌, ◌++◌, Some, None, append-nil, append_assoc}
 use Rattle.graph_core.specs.declared.kind.Kind.{Kind}
 use Rattle.graph_core.specs.declared.kind.Kind.TheVariants.{Entry, Exit, Tagger}
-use Rattle.graph_core.specs.Name.{Name, Port}
+use Rattle.graph_core.specs.Name.{Name}
 use Rattle.graph_core.specs.Kind.{Shape, tagged}
 use Rattle.module_sem.specs.Each.{Each}
-use Rattle.module_sem.specs.Side.{Token, one, at_port, share, share_from}
+use Rattle.module_sem.specs.Side.{Token, one, at_port}
 use Rattle.module_sem.specs.Circuit.{Circuit, circuit_of}
 use Rattle.module_sem.specs.State.{Slot, State, start, TagsDiffer}
 use Rattle.module_sem.specs.Firing.{Label, Label.Feed, Label.Take, Label.Fire, waiting, finished, FiresTagger, Acts}
@@ -86,9 +86,13 @@ module _ (shape : Shape) (tags : ℕ) where
   sorts : Each (λ node. Sort node.name node.kind) (tagger_nodes shape tags)
   sorts = (
     inl (λ choice old taken given new h. h),
-    (inl (λ choice old taken given new h. h),
-    (inl (λ choice old taken given new h. h),
-    (inl (λ choice old taken given new h. h), (inr (refl, refl), tt)))),
+    (
+      inl (λ choice old taken given new h. h),
+      (
+        inl (λ choice old taken given new h. h),
+        (inl (λ choice old taken given new h. h), (inr (refl, refl), tt)),
+      ),
+    ),
   )
 
   record Fired (s : State) (choice : ℕ) (t : State) : Type 0 where

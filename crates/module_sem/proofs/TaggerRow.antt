@@ -1,5 +1,5 @@
 -- A Tagger keeps tokens and slots fitting, and its tags different.
-use Rattle.std.proofs.Common.{◌≡◌, ◌≢◌, ℕ, zero, suc, ◌+◌, ◌^◌, ◌<◌, ◌≤◌, refl, sym, subst, Bool, true, false, nat_le, if◌then◌else◌, List, [], ◌∷◌, ◌++◌, Option, arith, add-zero}
+use Rattle.std.proofs.Common.{◌≡◌, ◌≢◌, ℕ, zero, suc, ◌+◌, ◌^◌, ◌≤◌, refl, sym, subst, Bool, true, false, nat_le, if◌then◌else◌, List, [], ◌∷◌, ◌++◌, arith, add-zero}
 use Rattle.std.proofs.lemmas.Bool.{leb-true}
 use Rattle.port_types.specs.Tag.{tag_width, tag_width_from}
 use Rattle.graph_core.specs.declared.kind.Kind.TheVariants.{Tagger}
