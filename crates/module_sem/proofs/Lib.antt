@@ -34,3 +34,4 @@ mod Listed
 mod LoneTagger
 mod TaggerRefuses
 mod LoneInit
+mod OneWay

@@ -11,7 +11,7 @@ use Rattle.module_sem.specs.Each.{Each}
 use Rattle.module_sem.specs.Side.{Token, single, one}
 use Rattle.module_sem.specs.Circuit.{Circuit, Typed, circuit_of}
 use Rattle.module_sem.specs.State.{State, start, IsStateOf}
-use Rattle.module_sem.specs.Firing.{Label}
+use Rattle.module_sem.specs.Firing.{Label, Label.Fire}
 use Rattle.module_sem.specs.Run.{Step, Move, Run, Shows}
 use Rattle.module_sem.specs.TaggerOrder.{tags_of, tags_given, results_given}
 use Rattle.module_sem.specs.Plug.{Link, plug, CanPlug}
@@ -36,6 +36,10 @@ StepKeepsState = (c : Circuit) → Typed c →
 -- so what a run from the start reaches is a state of the circuit
 abbrev pub RunReachesState : Type 0
 RunReachesState = (c : Circuit) → Typed c → (ms : List Move) (t : State) → Run c (start c) ms t → IsStateOf c t
+
+-- a firing, with its choice, leads to one state
+abbrev pub FiringIsOne : Type 0
+FiringIsOne = (c : Circuit) (s t u : State) (n : Name) (choice : ℕ) → IsStateOf c s → Step c s n (Fire choice) t → Step c s n (Fire choice) u → t ≡ u
 
 -- after any run the tags in the slots of a Tagger are those that it gave out, in this order, without as many of the first as it gave results
 abbrev pub TaggerKeepsOrder : Type 0

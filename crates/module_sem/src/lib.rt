@@ -3,7 +3,7 @@
 //! The crate has definitions and laws, and no calls: each function has an empty body, and a law of `specs/` for its contract.
 #![tactic(auto)]
 
-ghost use Rattle.module_sem.specs.Laws.{StartIsState, StepKeepsState, RunReachesState, TaggerKeepsOrder, RefinesItself, RefinesInSteps, RefinesAlone, PlugIsTyped, WholeRefines, DropRefines, PutRefines, CircuitIsTyped, GraphIsTyped, GraphDropRefines, GraphPutRefines, WireIsTyped, WireShowsToken, WireShowsNoOther, RootIsOne, RingHasNoRoot, RestIsOne, RestsWithoutInit, DropDrains, GraphDropDrains, WireDrains, TaggerIsTyped, TaggerShowsInOrder, TaggerShowsNoOther, InitIsTyped, InitRests, InitDrains};
+ghost use Rattle.module_sem.specs.Laws.{StartIsState, StepKeepsState, RunReachesState, FiringIsOne, TaggerKeepsOrder, RefinesItself, RefinesInSteps, RefinesAlone, PlugIsTyped, WholeRefines, DropRefines, PutRefines, CircuitIsTyped, GraphIsTyped, GraphDropRefines, GraphPutRefines, WireIsTyped, WireShowsToken, WireShowsNoOther, RootIsOne, RingHasNoRoot, RestIsOne, RestsWithoutInit, DropDrains, GraphDropDrains, WireDrains, TaggerIsTyped, TaggerShowsInOrder, TaggerShowsNoOther, InitIsTyped, InitRests, InitDrains};
 
 use op_table::value_fits;
 
@@ -15,6 +15,11 @@ pub fn states_fit()
 {
     value_fits();
 }
+
+/// A node that fires with a choice in a state leads to one state: all that is open in a run is who goes next, and with which choice.
+pub fn one_firing()
+    ensures { FiringIsOne }
+{}
 
 /// A Tagger gives results in the order in which it gave out their tags, whatever the order in which they came back.
 pub fn tagger_keeps_order()
