@@ -35,3 +35,4 @@ mod LoneTagger
 mod TaggerRefuses
 mod LoneInit
 mod OneWay
+mod RestFound

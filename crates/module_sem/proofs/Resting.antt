@@ -21,18 +21,17 @@ pub state_same : (s t : State) → ((p : Port) → s.wires p ≡ t.wires p) → 
 state_same s t ws xs = λ i. record { wires = λ p. ws p i; slots = λ n. xs n i }
 
 -- what a Buffer or a Fork gives for a token
-given_for : Kind → Token → List (List Token)
+abbrev pub given_for : Kind → Token → List (List Token)
 given_for (Fork shape count) v = replicate count (one v)
 given_for _ v = one v ∷ []
 
-record Passed (k : Kind) (old : List Slot) (taken given : List (List Token)) (new : List Slot) : Type 0 where
-  token : Token
-  is_taken : taken ≡ one token ∷ []
-  is_given : given ≡ given_for k token
-  same : new ≡ old
+pub record Passed (k : Kind) (old : List Slot) (taken given : List (List Token)) (new : List Slot) : Type 0 where
+  pub token : Token
+  pub is_taken : taken ≡ one token ∷ []
+  pub is_given : given ≡ given_for k token
+  pub same : new ≡ old
 
-passes_one : (k : Kind) → PassesThrough k → (choice : ℕ) (old : List Slot) (taken given : List (List Token)) (new : List Slot) → Fires k choice old taken given new → Passed k old taken given new
-unfolding given_for
+pub passes_one : (k : Kind) → PassesThrough k → (choice : ℕ) (old : List Slot) (taken given : List (List Token)) (new : List Slot) → Fires k choice old taken given new → Passed k old taken given new
 passes_one (Buffer shape) h choice old taken given new (v, z, et, eg, en) = record { token = v; is_taken = et; is_given = eg; same = en }
 passes_one (Fork shape count) h choice old taken given new (v, z, et, eg, en) = record { token = v; is_taken = et; is_given = eg; same = en }
 passes_one _ h choice old taken given new fires = absurd h

@@ -120,6 +120,10 @@ RingHasNoRoot = (c : Circuit) (b : Name) (shape : Shape) (q : Port) →
 abbrev pub RestIsOne : Type 0
 RestIsOne = (c : Circuit) (r s : State) → IsRest c r → IsRest c s → r ≡ s
 
+-- a graph, which has finitely many nodes, has one
+abbrev pub GraphRests : Type 0
+GraphRests = (g : NamedGraph) → (rest : State) × IsRest (circuit_of g) rest
+
 -- with no Init the start is at rest
 abbrev pub RestsWithoutInit : Type 0
 RestsWithoutInit = (c : Circuit) → ((n : Name) (k : Kind) → c.kind_at n ≡ Some k → ¬ (IsInit k)) → IsRest c (start c)
