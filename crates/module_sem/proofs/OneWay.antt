@@ -1,5 +1,5 @@
 -- From one state a node fires with one choice in one way.
-use Rattle.std.proofs.Common.{◌≡◌, ◌≢◌, ℕ, zero, suc, ◌^◌, ◌%◌, inl, inr, refl, sym, ap, subst, ◌∙◌, map, length, replicate, List, [], ◌∷◌, ◌++◌, Some, arith}
+use Rattle.std.proofs.Common.{◌≡◌, ℕ, zero, suc, ◌^◌, ◌%◌, inl, inr, refl, sym, ap, subst, ◌∙◌, map, length, replicate, List, [], ◌∷◌, ◌++◌, arith}
 use Rattle.std.specs.List.{concat, zip}
 use Rattle.std.proofs.lemmas.List.{append_cancel_left}
 use Rattle.op_table.specs.Value.{op_value}
