@@ -1,6 +1,6 @@
 //! What circuits do: their states and steps, what is seen of a run, when one circuit refines another, and what a circuit drains.
 //!
-//! The crate has definitions and laws, and no calls: each function has an empty body, and a law of `specs/` for its contract.
+//! The crate has definitions and laws, and no calls: each function has a law of `specs/` for its contract, and a body that is empty or calls laws of a lower crate.
 #![tactic(auto)]
 
 ghost use Rattle.module_sem.specs.Laws.{StartIsState, StepKeepsState, RunReachesState, FiringIsOne, TaggerKeepsOrder, RefinesItself, RefinesInSteps, RefinesAlone, PlugIsTyped, WholeRefines, DropRefines, PutRefines, CircuitIsTyped, GraphIsTyped, GraphDropRefines, GraphPutRefines, WireIsTyped, WireShowsToken, WireShowsNoOther, RootIsOne, RingHasNoRoot, RestIsOne, GraphRests, RestsWithoutInit, DropDrains, GraphDropDrains, WireDrains, TaggerIsTyped, TaggerShowsInOrder, TaggerShowsNoOther, InitIsTyped, InitRests, InitDrains};
