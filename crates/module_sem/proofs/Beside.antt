@@ -1,12 +1,13 @@
 -- A step stays within its circuit; a simulation of a part is one of the whole.
 use Rattle.std.proofs.Common.{◌≡◌, ◌≢◌, ◌⊎◌, inl, inr, refl, sym, ap, subst, ◌∙◌, List, [], ◌∷◌, ◌++◌, Option, Some, None, append-nil}
+use Rattle.op_table.specs.Laws.{ValueFits}
 use Rattle.port_types.specs.Token.{Fits}
 use Rattle.graph_core.specs.declared.kind.Kind.{Kind}
 use Rattle.graph_core.specs.Name.{Name, Port}
 use Rattle.module_sem.specs.Each.{Each}
 use Rattle.module_sem.specs.Side.{Token, share, share_from}
 use Rattle.module_sem.specs.Circuit.{Circuit, kind_of, Typed}
-use Rattle.module_sem.specs.State.{SlotFits, State, start, initial, IsStateOf}
+use Rattle.module_sem.specs.State.{SlotFits, TagsDiffer, State, start, initial, IsStateOf}
 use Rattle.module_sem.specs.Firing.{Label, Label.Feed, Label.Take, Label.Fire, Acts}
 use Rattle.module_sem.specs.Run.{Step, Firing, Firings}
 use Rattle.module_sem.specs.Plug.{Apart, beside, or_else}
@@ -256,12 +257,13 @@ agree_fits c s u w x h =
     record {
       wires = λ p k a e f. subst (Each (Fits a)) (sym (w p k e)) (h.wires p k a e f);
       slots = λ n k e. subst (Each (SlotFits k)) (sym (x n k e)) (h.slots n k e);
+      tags = λ n k e. subst TagsDiffer (sym (x n k e)) (h.tags n k e);
     }
 
 module _ (c h g : Circuit) (ch : Apart c h) (cg : Apart c g) (tc : Typed c) (th : Typed h) (tg : Typed g) (R : State → State → Type 0) where
   -- a step of c
-  lift_c : (s t : State) (n : Name) (l : Label) (u : State) → Lifted c h g R s t → Step c s n l u → (w : State) × Step c t n l w × Lifted c h g R u w
-  lift_c s t n l u lf st =
+  lift_c : ValueFits → (s t : State) (n : Name) (l : Label) (u : State) → Lifted c h g R s t → Step c s n l u → (w : State) × Step c t n l w × Lifted c h g R u w
+  lift_c values s t n l u lf st =
       let fr = frame c tc s t n l u lf.on_c st in (
         fr.to,
         fr.step,
@@ -272,7 +274,7 @@ module _ (c h g : Circuit) (ch : Apart c h) (cg : Apart c g) (tc : Typed c) (th 
           on_new = agree_leaves h c (apart_sym c h ch) s u lf.sh lf.sh lf.on_new (local c tc s n l u st) (leaves_none c lf.sh);
           on_old = agree_leaves g c (apart_sym c g cg) t fr.to lf.tg lf.tg lf.on_old fr.leaves (leaves_none c lf.tg);
           on_c = fr.agree;
-          fits = step_fits c tc s n l u st lf.fits;
+          fits = step_fits values c tc s n l u st lf.fits;
         },
       )
 
@@ -294,8 +296,8 @@ module _ (c h g : Circuit) (ch : Apart c h) (cg : Apart c g) (tc : Typed c) (th 
       }
 
 -- what is refined is refined beside each circuit
-pub beside_sim : (c h g : Circuit) → Apart c h → Apart c g → Typed c → Typed h → Typed g → Sim h g → Sim (beside c h) (beside c g)
-beside_sim c h g ch cg tc th tg sim =
+pub beside_sim : ValueFits → (c h g : Circuit) → Apart c h → Apart c g → Typed c → Typed h → Typed g → Sim h g → Sim (beside c h) (beside c g)
+beside_sim values c h g ch cg tc th tg sim =
     record {
       R = Lifted c h g sim.R;
       begins =
@@ -314,7 +316,7 @@ beside_sim c h g ch cg tc th tg sim =
       feeds = λ s t u n v lf st.
           elim (step_of c h ch tc th s n (Feed v) u st) [
             | inl mine ↦
-                let (w, st2, lf2) = lift_c c h g ch cg tc th tg sim.R s t n (Feed v) u lf mine in
+                let (w, st2, lf2) = lift_c c h g ch cg tc th tg sim.R values s t n (Feed v) u lf mine in
                 (w, step_left c g cg tc tg t n (Feed v) w st2, lf2)
             | inr its ↦
                 let fr = frame h th s lf.sh n (Feed v) u lf.on_new its in
@@ -328,7 +330,7 @@ beside_sim c h g ch cg tc th tg sim =
       takes = λ s t u n v lf st.
           elim (step_of c h ch tc th s n (Take v) u st) [
             | inl mine ↦
-                let (w, st2, lf2) = lift_c c h g ch cg tc th tg sim.R s t n (Take v) u lf mine in
+                let (w, st2, lf2) = lift_c c h g ch cg tc th tg sim.R values s t n (Take v) u lf mine in
                 (t, w, inner_none (beside c g) t, step_left c g cg tc tg t n (Take v) w st2, lf2)
             | inr its ↦
                 let fr = frame h th s lf.sh n (Take v) u lf.on_new its in
@@ -346,7 +348,7 @@ beside_sim c h g ch cg tc th tg sim =
       fires = λ s t u n k lf st.
           elim (step_of c h ch tc th s n (Fire k) u st) [
             | inl mine ↦
-                let (w, st2, lf2) = lift_c c h g ch cg tc th tg sim.R s t n (Fire k) u lf mine in
+                let (w, st2, lf2) = lift_c c h g ch cg tc th tg sim.R values s t n (Fire k) u lf mine in
                 (w, inner_one (beside c g) t w n k (step_left c g cg tc tg t n (Fire k) w st2), lf2)
             | inr its ↦
                 let fr = frame h th s lf.sh n (Fire k) u lf.on_new its in

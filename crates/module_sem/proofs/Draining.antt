@@ -1,7 +1,7 @@
 -- What a circuit drains it drains without a Buffer.
 use Rattle.std.proofs.Common.{◌≡◌, ◌≢◌, ℕ, inl, inr, refl, sym, ap, subst, ◌∙◌, if◌then◌else◌, List, [], ◌∷◌, ◌++◌, Option, Some, None, append-nil}
 use Rattle.graph_core.specs.declared.kind.Kind.{Kind}
-use Rattle.graph_core.specs.declared.kind.Kind.TheVariants.{Entry, Exit, Buffer, Fork}
+use Rattle.graph_core.specs.declared.kind.Kind.TheVariants.{Entry, Exit, Buffer, Fork, Init}
 use Rattle.graph_core.specs.Name.{Name, Port}
 use Rattle.module_sem.specs.Each.{Each}
 use Rattle.module_sem.specs.Side.{Token, share, share_from}
@@ -19,17 +19,13 @@ use Rattle.module_sem.proofs.Dropped.{Fed, Fed.straight, Fed.across, fed, fed_st
 
 -- what holds a token at the start is an Init
 initial_init : (k : Kind) (v : Token) (vs : List Token) → initial (Some k) ≡ v ∷ vs → IsInit k
-initial_init (Entry _) v vs e = let z : [] ≡ v ∷ vs = e in cc
-initial_init (Exit _) v vs e = let z : [] ≡ v ∷ vs = e in cc
-initial_init (Buffer _) v vs e = let z : [] ≡ v ∷ vs = e in cc
-initial_init (Fork _ _) v vs e = let z : [] ≡ v ∷ vs = e in cc
+initial_init (Init value mark) v vs e = tt
+initial_init _ v vs e = let z : [] ≡ v ∷ vs = e in cc
 
 -- no walk goes through an Init
 init_stays : (k : Kind) → IsInit k → PassesThrough k → ⊥
-init_stays (Entry _) h p = h
-init_stays (Exit _) h p = h
-init_stays (Buffer _) h p = h
-init_stays (Fork _ _) h p = h
+init_stays (Init value mark) h p = p
+init_stays _ h p = absurd h
 
 through_of : (k : Kind) → PassesOn k → PassesThrough k
 through_of (Buffer _) h = tt
@@ -42,7 +38,7 @@ no_exit (Fork _ _) h = tt
 no_exit _ h = absurd h
 
 -- only wires that come from an Init hold anything
-abbrev Comes : Circuit → State → Type 0
+abbrev pub Comes : Circuit → State → Type 0
 Comes c s = (p : Port) (v : Token) (vs : List Token) → s.wires p ≡ v ∷ vs → ComesFromInit c p
 
 module _ (c : Circuit) where
@@ -56,7 +52,7 @@ module _ (c : Circuit) where
   start_at p v vs None f h = let z : [] ≡ v ∷ vs = h in cc
   start_at p v vs (Some q) f h = start_kind p q v vs f (c.kind_at q.node) refl h
 
-  start_comes : Comes c (start c)
+  pub start_comes : Comes c (start c)
   start_comes p v vs e = start_at p v vs (c.feeder p) refl e
 
   fed_by_led : (n : Name) → Led c n → (p q : Port) → c.feeder p ≡ Some q → q.node ≡ n → ComesFromInit c p
@@ -88,7 +84,7 @@ module _ (c : Circuit) where
   step_comes_at s n k t st led h p v vs (w ∷ ws) e f =
       let (z, zs, g) = cons_behind (share n st.taken p) w ws in h p z zs (st.takes p ∙ ap (λ x. share n st.taken p ++ x) e ∙ g)
 
-  led_comes : (s : State) (fs : List Firing) (t : State) → Each (λ f. Led c f.node) fs → Firings c s fs t → Comes c s → Comes c t
+  pub led_comes : (s : State) (fs : List Firing) (t : State) → Each (λ f. Led c f.node) fs → Firings c s fs t → Comes c s → Comes c t
   led_comes s [] t led run h p v vs e = h p v vs (ap (λ (z : State). z.wires p) run ∙ e)
   led_comes s (f ∷ fs) t led run h p v vs e =
       led_comes run.0 fs t led.1 run.2 (λ q w ws g. step_comes_at s f.node f.choice run.0 run.1 led.0 h q w ws (run.1.between q) refl (sym (run.1.gives q) ∙ g)) p v vs e

@@ -1,5 +1,6 @@
--- A step keeps a state: where tokens and slots fit before, they fit after.
-use Rattle.std.proofs.Common.{◌≡◌, inl, inr, refl, sym, ap, subst, ◌∙◌, ◌++◌, Option, Some, None}
+-- A step keeps a state: where tokens and slots fit and tags differ before, they do after.
+use Rattle.std.proofs.Common.{◌≡◌, inl, inr, refl, sym, ap, subst, ◌∙◌, List, [], ◌∷◌, ◌++◌, Option, Some, None}
+use Rattle.op_table.specs.Laws.{ValueFits}
 use Rattle.port_types.specs.Token.{Fits}
 use Rattle.graph_core.specs.declared.kind.Kind.{Kind}
 use Rattle.graph_core.specs.declared.kind.Kind.TheVariants.{Exit}
@@ -8,16 +9,17 @@ use Rattle.graph_core.specs.Kind.{Shape, ins, outs}
 use Rattle.module_sem.specs.Each.{Each}
 use Rattle.module_sem.specs.Side.{Token, one, share, share_from, at_port}
 use Rattle.module_sem.specs.Circuit.{Circuit, kind_of, Typed}
-use Rattle.module_sem.specs.State.{State, start, initial, SlotFits, IsStateOf}
+use Rattle.module_sem.specs.State.{State, start, initial, SlotFits, TagsDiffer, IsStateOf}
 use Rattle.module_sem.specs.Firing.{Label, Label.Take}
-use Rattle.module_sem.specs.Run.{Step}
+use Rattle.module_sem.specs.Run.{Step, Move, Run}
 use Rattle.module_sem.proofs.Names.{name_cases}
 use Rattle.module_sem.proofs.Lists.{each_append, each_left, each_right}
 use Rattle.module_sem.proofs.Steps.{acts_at, some_inj, share_same, share_other}
-use Rattle.module_sem.proofs.Rows.{PortsFit, side_of, ports_of, Kept, acts_fit, initial_fit}
+use Rattle.module_sem.proofs.Sides.{PortsFit, side_of, ports_of, Kept}
+use Rattle.module_sem.proofs.Rows.{acts_fit, initial_fit}
 
 -- a step keeps a state
-module _ (c : Circuit) (ty : Typed c) (s : State) (n : Name) (l : Label) (t : State) (st : Step c s n l t) (h : IsStateOf c s) where
+module _ (values : ValueFits) (c : Circuit) (ty : Typed c) (s : State) (n : Name) (l : Label) (t : State) (st : Step c s n l t) (h : IsStateOf c s) where
   taken_fits : PortsFit (ins st.kind) st.taken
   taken_fits i b e =
       let whole : Each (Fits b) (s.wires (record { node = n; port = i })) = h.wires (record { node = n; port = i }) st.kind b st.is_kind e in
@@ -27,8 +29,8 @@ module _ (c : Circuit) (ty : Typed c) (s : State) (n : Name) (l : Label) (t : St
 
   given_fit : Kept st.kind st.given (t.slots n)
   given_fit =
-      acts_fit st.kind (ty.kinds n st.kind st.is_kind) l (s.slots n) st.taken st.given (t.slots n) st.acts
-      (side_of (ins st.kind) st.taken taken_fits) (h.slots n st.kind st.is_kind)
+      acts_fit values st.kind (ty.kinds n st.kind st.is_kind) l (s.slots n) st.taken st.given (t.slots n) st.acts
+      (side_of (ins st.kind) st.taken taken_fits) (h.slots n st.kind st.is_kind) (h.tags n st.kind st.is_kind)
 
   fed_fit : (p : Port) (k : Kind) (a : Shape) → c.kind_at p.node ≡ Some k → port_get (ins k) p.port ≡ Some a → (o : Option Port) → c.feeder p ≡ o → Each (Fits a) (share_from n st.given o)
   fed_fit p k a ek ea None f = tt
@@ -59,6 +61,11 @@ module _ (c : Circuit) (ty : Typed c) (s : State) (n : Name) (l : Label) (t : St
                   (subst (λ z. Each (SlotFits z) (t.slots n)) (some_inj st.kind k (sym st.is_kind ∙ ap c.kind_at (sym is.is) ∙ ek)) given_fit.slots)
               | inr ne ↦ subst (Each (SlotFits k)) (sym (st.others m ne.is_not)) (h.slots m k ek)
             ];
+        tags = λ m k ek.
+            elim (name_cases m n) [
+              | inl is ↦ subst (λ z. TagsDiffer (t.slots z)) (sym is.is) given_fit.tags
+              | inr ne ↦ subst TagsDiffer (sym (st.others m ne.is_not)) (h.tags m k ek)
+            ];
       }
 
 start_fit_at : (c : Circuit) → Typed c → (p : Port) (k : Kind) (a : Shape) → c.kind_at p.node ≡ Some k → port_get (ins k) p.port ≡ Some a → (o : Option Port) → c.feeder p ≡ o → Each (Fits a) (initial (kind_of c o))
@@ -69,7 +76,14 @@ start_fit_at c ty p k a ek ea (Some q) f =
     subst (λ z. Each (Fits a) (initial z)) (sym w.is_source) (initial_fit w.source (ty.kinds q.node w.source w.is_source) q.port a (w.leaves ∙ ap Some same))
 
 pub start_fits : (c : Circuit) → Typed c → IsStateOf c (start c)
-start_fits c ty = record { wires = λ p k a ek ea. start_fit_at c ty p k a ek ea (c.feeder p) refl; slots = λ n k e. tt }
+start_fits c ty = record { wires = λ p k a ek ea. start_fit_at c ty p k a ek ea (c.feeder p) refl; slots = λ n k e. tt; tags = λ n k e. tt }
+
+run_fits : ValueFits → (c : Circuit) → Typed c → (s : State) (ms : List Move) (t : State) → Run c s ms t → IsStateOf c s → IsStateOf c t
+run_fits values c ty s [] t run h = subst (IsStateOf c) run h
+run_fits values c ty s (m ∷ ms) t run h = run_fits values c ty run.0 ms t run.2 (step_fits values c ty s m.node m.label run.0 run.1 h)
+
+pub reached_fits : ValueFits → (c : Circuit) → Typed c → (ms : List Move) (t : State) → Run c (start c) ms t → IsStateOf c t
+reached_fits values c ty ms t run = run_fits values c ty (start c) ms t run (start_fits c ty)
 
 -- what is taken fits
 pub take_fits : (c : Circuit) (s : State) (n : Name) (v : Token) (a : Shape) (t : State) → c.kind_at n ≡ Some (Exit a) → Step c s n (Take v) t → IsStateOf c s → Fits a v

@@ -2,6 +2,7 @@
 use Rattle.std.proofs.Common.{◌≡◌, ◌≢◌, inl, inr, Bool, true, false, not, ◌||◌, refl, sym, ap, subst, ◌∙◌, bytes_eq, cond, if◌then◌else◌, List, Option, Some, None}
 use Rattle.std.specs.Ordering.{eq_by_cmp}
 use Rattle.std.specs.FinMap as map
+use Rattle.op_table.specs.Laws.{ValueFits}
 use Rattle.graph_core.specs.declared.kind.Kind.TheVariants.{Buffer}
 use Rattle.graph_core.specs.Name.{Name, Port, port_cmp, port_get}
 use Rattle.graph_core.specs.Kind.{ins}
@@ -85,11 +86,11 @@ module _ (h g : NamedGraph) (b : Name) (ty : IsTyped g) (w : IsWithoutBuffer h g
       ap circuit_of w.is
       ∙ circuit_same _ _ (λ n. ap kind_of_body (get_without_name g.nodes b n) ∙ kind_without (bytes_eq n b) (map.get g.nodes n)) feeder_at
 
-  pub graph_drop_refines : Refines (circuit_of h) (circuit_of g)
-  graph_drop_refines = subst (λ c. Refines c (circuit_of g)) (sym without_circuit) (dropped (circuit_of g) b typed can_drop)
+  pub graph_drop_refines : ValueFits → Refines (circuit_of h) (circuit_of g)
+  graph_drop_refines values = subst (λ c. Refines c (circuit_of g)) (sym without_circuit) (dropped values (circuit_of g) b typed can_drop)
 
-  pub graph_put_refines : Refines (circuit_of g) (circuit_of h)
-  graph_put_refines = subst (Refines (circuit_of g)) (sym without_circuit) (put (circuit_of g) b typed can_drop)
+  pub graph_put_refines : ValueFits → Refines (circuit_of g) (circuit_of h)
+  graph_put_refines values = subst (Refines (circuit_of g)) (sym without_circuit) (put values (circuit_of g) b typed can_drop)
 
   pub graph_drains : (ins outs : Name → List Token) → Drains (circuit_of g) ins outs → Drains (circuit_of h) ins outs
   graph_drains ins outs d = subst (λ c. Drains c ins outs) (sym without_circuit) (drains_without (circuit_of g) b can_drop typed ins outs d)

@@ -3,8 +3,11 @@ pub mod Lists
 pub mod Steps
 pub mod Sim
 pub mod Linking
+mod Sides
+mod TaggerRow
 mod Rows
 pub mod Fitting
+mod TaggerOrder
 pub mod Roots
 pub mod Resting
 pub mod Beside
@@ -26,3 +29,10 @@ mod GraphCircuits
 mod GraphBuffers
 mod LoneWire
 mod WireDrains
+mod MadeSteps
+mod Listed
+mod LoneTagger
+mod TaggerRefuses
+mod LoneInit
+mod OneWay
+mod RestFound

@@ -1,5 +1,6 @@
--- What the author of a rule shows, and that it gives refinement.
+-- What the author of a rule shows, and that it gives refinement. That the values of operators fit is a law of `op_table`, which a law function calls.
 use Rattle.std.proofs.Common.{ℕ, subst, List, [], ◌∷◌}
+use Rattle.op_table.specs.Laws.{ValueFits}
 use Rattle.graph_core.specs.Name.{Name}
 use Rattle.module_sem.specs.Side.{Token}
 use Rattle.module_sem.specs.Circuit.{Circuit, Typed}
@@ -11,12 +12,12 @@ use Rattle.module_sem.proofs.Sim.{Inner, Sim}
 use Rattle.module_sem.proofs.Fitting.{step_fits, start_fits, take_fits}
 use Rattle.module_sem.proofs.Refining.{sim_refines}
 
-firings_fit : (c : Circuit) → Typed c → (s : State) (fs : List Firing) (t : State) → Firings c s fs t → IsStateOf c s → IsStateOf c t
-firings_fit c ty s [] t e h = subst (IsStateOf c) e h
-firings_fit c ty s (f ∷ fs) t k h = firings_fit c ty k.0 fs t k.2 (step_fits c ty s f.node (Fire f.choice) k.0 k.1 h)
+firings_fit : ValueFits → (c : Circuit) → Typed c → (s : State) (fs : List Firing) (t : State) → Firings c s fs t → IsStateOf c s → IsStateOf c t
+firings_fit values c ty s [] t e h = subst (IsStateOf c) e h
+firings_fit values c ty s (f ∷ fs) t k h = firings_fit values c ty k.0 fs t k.2 (step_fits values c ty s f.node (Fire f.choice) k.0 k.1 h)
 
-pub inner_fits : (c : Circuit) → Typed c → (s t : State) → Inner c s t → IsStateOf c s → IsStateOf c t
-inner_fits c ty s t k h = firings_fit c ty s k.firings t k.leads h
+pub inner_fits : ValueFits → (c : Circuit) → Typed c → (s t : State) → Inner c s t → IsStateOf c s → IsStateOf c t
+inner_fits values c ty s t k h = firings_fit values c ty s k.firings t k.leads h
 
 -- what the author of a rule shows: each step of the new circuit is matched in the old one, from states whose tokens fit
 pub record Matches (h g : Circuit) : Type 1 where
@@ -26,22 +27,22 @@ pub record Matches (h g : Circuit) : Type 1 where
   pub takes : (s t u : State) (n : Name) (v : Token) → IsStateOf h s → IsStateOf g t → R s t → Step h s n (Take v) u → (m w : State) × Inner g t m × Step g m n (Take v) w × R u w
   pub fires : (s t u : State) (n : Name) (c : ℕ) → IsStateOf h s → IsStateOf g t → R s t → Step h s n (Fire c) u → (w : State) × Inner g t w × R u w
 
-pub sim_of : (h g : Circuit) → Typed h → Typed g → Matches h g → Sim h g
-sim_of h g th tg m =
+pub sim_of : ValueFits → (h g : Circuit) → Typed h → Typed g → Matches h g → Sim h g
+sim_of values h g th tg m =
     record {
       R = λ s t. IsStateOf h s × IsStateOf g t × m.R s t;
       begins = (start_fits h th, start_fits g tg, m.begins);
       feeds = λ s t u n v r st.
           let (w, st2, r2) = m.feeds s t u n v r.0 r.1 r.2 st in
-          (w, st2, (step_fits h th s n (Feed v) u st r.0, step_fits g tg t n (Feed v) w st2 r.1, r2));
+          (w, st2, (step_fits values h th s n (Feed v) u st r.0, step_fits values g tg t n (Feed v) w st2 r.1, r2));
       takes = λ s t u n v r st.
           let (x, w, inn, st2, r2) = m.takes s t u n v r.0 r.1 r.2 st in
-          (x, w, inn, st2, (step_fits h th s n (Take v) u st r.0, step_fits g tg x n (Take v) w st2 (inner_fits g tg t x inn r.1), r2));
+          (x, w, inn, st2, (step_fits values h th s n (Take v) u st r.0, step_fits values g tg x n (Take v) w st2 (inner_fits values g tg t x inn r.1), r2));
       fires = λ s t u n c r st.
           let (w, inn, r2) = m.fires s t u n c r.0 r.1 r.2 st in
-          (w, inn, (step_fits h th s n (Fire c) u st r.0, inner_fits g tg t w inn r.1, r2));
+          (w, inn, (step_fits values h th s n (Fire c) u st r.0, inner_fits values g tg t w inn r.1, r2));
       fits = λ s t u n v a r e st. take_fits h s n v a u e st r.0;
     }
 
-pub matches_refines : (h g : Circuit) → Typed h → Typed g → SamePorts h g → Matches h g → Refines h g
-matches_refines h g th tg same m = sim_refines h g th tg same (sim_of h g th tg m)
+pub matches_refines : ValueFits → (h g : Circuit) → Typed h → Typed g → SamePorts h g → Matches h g → Refines h g
+matches_refines values h g th tg same m = sim_refines values h g th tg same (sim_of values h g th tg m)

@@ -2,7 +2,7 @@
 use Rattle.std.proofs.Common.{◌≡◌, ◌≢◌, ◌⊎◌, ℕ, inl, inr, refl, sym, ap, subst, ◌∙◌, bytes_eq, if◌then◌else◌, List, [], ◌∷◌, ◌++◌, Option, Some, None, replicate, append-nil, append_assoc}
 use Rattle.std.proofs.lemmas.List.{append_cancel_left}
 use Rattle.graph_core.specs.declared.kind.Kind.{Kind}
-use Rattle.graph_core.specs.declared.kind.Kind.TheVariants.{Entry, Exit, Buffer, Fork}
+use Rattle.graph_core.specs.declared.kind.Kind.TheVariants.{Buffer, Fork}
 use Rattle.graph_core.specs.Name.{Name, Port}
 use Rattle.module_sem.specs.Each.{Each}
 use Rattle.module_sem.specs.Side.{Token, one, share, share_from}
@@ -21,18 +21,17 @@ pub state_same : (s t : State) → ((p : Port) → s.wires p ≡ t.wires p) → 
 state_same s t ws xs = λ i. record { wires = λ p. ws p i; slots = λ n. xs n i }
 
 -- what a Buffer or a Fork gives for a token
-given_for : Kind → Token → List (List Token)
+abbrev pub given_for : Kind → Token → List (List Token)
 given_for (Fork shape count) v = replicate count (one v)
 given_for _ v = one v ∷ []
 
-record Passed (k : Kind) (old : List Slot) (taken given : List (List Token)) (new : List Slot) : Type 0 where
-  token : Token
-  is_taken : taken ≡ one token ∷ []
-  is_given : given ≡ given_for k token
-  same : new ≡ old
+pub record Passed (k : Kind) (old : List Slot) (taken given : List (List Token)) (new : List Slot) : Type 0 where
+  pub token : Token
+  pub is_taken : taken ≡ one token ∷ []
+  pub is_given : given ≡ given_for k token
+  pub same : new ≡ old
 
-passes_one : (k : Kind) → PassesThrough k → (choice : ℕ) (old : List Slot) (taken given : List (List Token)) (new : List Slot) → Fires k choice old taken given new → Passed k old taken given new
-unfolding given_for
+pub passes_one : (k : Kind) → PassesThrough k → (choice : ℕ) (old : List Slot) (taken given : List (List Token)) (new : List Slot) → Fires k choice old taken given new → Passed k old taken given new
 passes_one (Buffer shape) h choice old taken given new (v, z, et, eg, en) = record { token = v; is_taken = et; is_given = eg; same = en }
 passes_one (Fork shape count) h choice old taken given new (v, z, et, eg, en) = record { token = v; is_taken = et; is_given = eg; same = en }
 passes_one _ h choice old taken given new fires = absurd h
@@ -238,12 +237,3 @@ start_rests_unled c none = record { firings = []; led = tt; leads = refl; ends =
 pub rests_without_init : (c : Circuit) → ((n : Name) (k : Kind) → c.kind_at n ≡ Some k → IsInit k → ⊥) → IsRest c (start c)
 rests_without_init c none =
     start_rests_unled c (λ n led. none led.comes.root.node led.comes.source led.comes.is_source led.comes.is_init)
-
-no_init : (k : Kind) → IsInit k → ⊥
-no_init (Entry _) h = h
-no_init (Exit _) h = h
-no_init (Buffer _) h = h
-no_init (Fork _ _) h = h
-
-pub start_rests : (c : Circuit) → IsRest c (start c)
-start_rests c = rests_without_init c (λ n k e. no_init k)

@@ -2,7 +2,7 @@
 use Rattle.std.specs.Prelude.{◌≡◌, ℕ, List, [], ◌++◌, Option, Some, None}
 use Rattle.port_types.specs.Token.{Fits}
 use Rattle.graph_core.specs.declared.kind.Kind.{Kind}
-use Rattle.graph_core.specs.declared.kind.Kind.TheVariants.{Entry, Exit, Buffer, Fork}
+use Rattle.graph_core.specs.declared.kind.Kind.TheVariants.{Entry, Exit, Init}
 use Rattle.graph_core.specs.Name.{Name, Port}
 use Rattle.graph_core.specs.Kind.{Shape}
 use Rattle.module_sem.specs.Each.{Each}
@@ -14,12 +14,10 @@ use Rattle.module_sem.specs.Run.{Step, Firing, Firings}
 use Rattle.module_sem.specs.Buffers.{first_port}
 use Rattle.module_sem.specs.Root.{PassesThrough, Root}
 
--- the kinds whose output holds a token at the start
+-- the kind whose output holds a token at the start
 abbrev pub IsInit : Kind → Type 0
-IsInit (Entry shape) = ⊥
-IsInit (Exit shape) = ⊥
-IsInit (Buffer shape) = ⊥
-IsInit (Fork shape count) = ⊥
+IsInit (Init value mark) = Unit {0}
+IsInit _ = ⊥
 
 -- the root of input p is an Init's output
 pub record ComesFromInit (c : Circuit) (p : Port) : Type 0 where

@@ -1,24 +1,28 @@
 -- The laws of circuits. Each is proved of a function of this crate.
-use Rattle.std.specs.Prelude.{◌≡◌, ◌↔◌, List, [], ◌∷◌, Some}
+use Rattle.std.specs.Prelude.{◌≡◌, ◌↔◌, ℕ, drop, List, [], ◌∷◌, Some}
 use Rattle.port_types.specs.Shape.{IsShape}
 use Rattle.port_types.specs.Token.{Fits}
 use Rattle.graph_core.specs.declared.kind.Kind.{Kind}
-use Rattle.graph_core.specs.declared.kind.Kind.TheVariants.{Buffer}
+use Rattle.graph_core.specs.declared.kind.Kind.TheVariants.{Buffer, Init, Tagger}
 use Rattle.graph_core.specs.Name.{Name, Port}
-use Rattle.graph_core.specs.Kind.{Shape}
+use Rattle.graph_core.specs.Kind.{Shape, field, KindOk}
 use Rattle.graph_core.specs.NamedGraph.{NamedGraph, IsTyped}
 use Rattle.module_sem.specs.Each.{Each}
-use Rattle.module_sem.specs.Side.{Token}
+use Rattle.module_sem.specs.Side.{Token, single, one}
 use Rattle.module_sem.specs.Circuit.{Circuit, Typed, circuit_of}
 use Rattle.module_sem.specs.State.{State, start, IsStateOf}
-use Rattle.module_sem.specs.Firing.{Label}
-use Rattle.module_sem.specs.Run.{Step, Move, Shows}
+use Rattle.module_sem.specs.Firing.{Label, Label.Fire}
+use Rattle.module_sem.specs.Run.{Step, Move, Run, Shows}
+use Rattle.module_sem.specs.TaggerOrder.{tags_of, tags_given, results_given}
 use Rattle.module_sem.specs.Plug.{Link, plug, CanPlug}
 use Rattle.module_sem.specs.Refines.{Refines}
 use Rattle.module_sem.specs.Buffers.{first_port, drop_node, CanDropBuffer, IsWithoutBuffer}
 use Rattle.module_sem.specs.Root.{Root}
 use Rattle.module_sem.specs.Drains.{IsInit, IsRest, Drains}
 use Rattle.module_sem.specs.LoneWire.{entry_name, exit_name, lone_wire, fed, took}
+use Rattle.module_sem.specs.Listed.{fed_at, taken_at}
+use Rattle.module_sem.specs.LoneTagger.{fresh, work, back, results, lone_tagger}
+use Rattle.module_sem.specs.LoneInit.{bits, out, lone_init}
 
 -- what a typed circuit holds at the start fits
 abbrev pub StartIsState : Type 0
@@ -28,6 +32,19 @@ StartIsState = (c : Circuit) → Typed c → IsStateOf c (start c)
 abbrev pub StepKeepsState : Type 0
 StepKeepsState = (c : Circuit) → Typed c →
     (s : State) (n : Name) (l : Label) (t : State) → Step c s n l t → IsStateOf c s → IsStateOf c t
+
+-- so what a run from the start reaches is a state of the circuit
+abbrev pub RunReachesState : Type 0
+RunReachesState = (c : Circuit) → Typed c → (ms : List Move) (t : State) → Run c (start c) ms t → IsStateOf c t
+
+-- a firing, with its choice, leads to one state
+abbrev pub FiringIsOne : Type 0
+FiringIsOne = (c : Circuit) (s t u : State) (n : Name) (choice : ℕ) → IsStateOf c s → Step c s n (Fire choice) t → Step c s n (Fire choice) u → t ≡ u
+
+-- after any run the tags in the slots of a Tagger are those that it gave out, in this order, without as many of the first as it gave results
+abbrev pub TaggerKeepsOrder : Type 0
+TaggerKeepsOrder = (c : Circuit) (n : Name) (shape : Shape) (tags : ℕ) → c.kind_at n ≡ Some (Tagger shape tags) →
+    (ms : List Move) (t : State) → Run c (start c) ms t → tags_of (t.slots n) ≡ drop (results_given n ms) (tags_given n ms)
 
 -- a typed circuit refines itself
 abbrev pub RefinesItself : Type 0
@@ -103,13 +120,13 @@ RingHasNoRoot = (c : Circuit) (b : Name) (shape : Shape) (q : Port) →
 abbrev pub RestIsOne : Type 0
 RestIsOne = (c : Circuit) (r s : State) → IsRest c r → IsRest c s → r ≡ s
 
+-- a graph, which has finitely many nodes, has one
+abbrev pub GraphRests : Type 0
+GraphRests = (g : NamedGraph) → (rest : State) × IsRest (circuit_of g) rest
+
 -- with no Init the start is at rest
 abbrev pub RestsWithoutInit : Type 0
 RestsWithoutInit = (c : Circuit) → ((n : Name) (k : Kind) → c.kind_at n ≡ Some k → ¬ (IsInit k)) → IsRest c (start c)
-
--- as no kind is an Init yet, the start of each typed circuit is at rest
-abbrev pub StartRests : Type 0
-StartRests = (c : Circuit) → Typed c → IsRest c (start c)
 
 -- what a circuit drains it drains without a Buffer
 abbrev pub DropDrains : Type 0
@@ -125,3 +142,34 @@ GraphDropDrains = (h g : NamedGraph) (b : Name) (ins outs : Name → List Token)
 abbrev pub WireDrains : Type 0
 WireDrains = (shape : Shape) (ins outs : Name → List Token) →
     Drains (circuit_of (lone_wire shape)) ins outs ↔ (Each (Fits shape) (ins entry_name) × (outs exit_name ≡ ins entry_name))
+
+-- a Tagger with an Entry or an Exit at each port is typed
+abbrev pub TaggerIsTyped : Type 0
+TaggerIsTyped = (shape : Shape) (tags : ℕ) → KindOk (Tagger shape tags) → IsTyped (lone_tagger shape tags)
+
+-- with two tags it gives the results in the order in which the tokens came, although the second result comes back first
+abbrev pub TaggerShowsInOrder : Type 0
+TaggerShowsInOrder = (shape : Shape) (v u a b : Token) → Fits shape v → Fits shape u → Fits shape a → Fits shape b →
+    Shows (circuit_of (lone_tagger shape 2))
+    (fed_at fresh v ∷ fed_at fresh u ∷ taken_at work (0 ∷ v) ∷ taken_at work (1 ∷ u) ∷
+    fed_at back (1 ∷ b) ∷ fed_at back (0 ∷ a) ∷ taken_at results a ∷ taken_at results b ∷ [])
+
+-- and where only the second result has come back it gives none, whatever its tags
+abbrev pub TaggerShowsNoOther : Type 0
+TaggerShowsNoOther = (shape : Shape) (tags : ℕ) (v u b y : Token) (first second : ℕ) →
+    ¬ (Shows (circuit_of (lone_tagger shape tags))
+    (fed_at fresh v ∷ fed_at fresh u ∷ taken_at work (first ∷ v) ∷ taken_at work (second ∷ u) ∷
+    fed_at back (second ∷ b) ∷ taken_at results y ∷ []))
+
+-- an Init between an Entry and a Buffer before an Exit is typed
+abbrev pub InitIsTyped : Type 0
+InitIsTyped = (value mark : ℕ) → KindOk (Init value mark) → IsTyped (lone_init value mark)
+
+-- at rest the Init's value has passed the Buffer
+abbrev pub InitRests : Type 0
+InitRests = (value mark : ℕ) → (rest : State) × IsRest (circuit_of (lone_init value mark)) rest × (rest.wires (first_port out) ≡ one (single value))
+
+-- it drains bits to the value followed by them, and to nothing else
+abbrev pub InitDrains : Type 0
+InitDrains = (value mark : ℕ) (ins outs : Name → List Token) → KindOk (Init value mark) →
+    Drains (circuit_of (lone_init value mark)) ins outs ↔ (Each (Fits (field 1)) (ins bits) × (outs out ≡ single value ∷ ins bits))

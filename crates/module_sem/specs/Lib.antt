@@ -7,7 +7,11 @@ pub mod Run
 pub mod Plug
 pub mod Refines
 pub mod Buffers
+pub mod TaggerOrder
 pub mod Root
 pub mod Drains
 pub mod LoneWire
+pub mod Listed
+pub mod LoneTagger
+pub mod LoneInit
 pub mod Laws

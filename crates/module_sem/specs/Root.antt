@@ -1,17 +1,16 @@
 -- The root of an input: where the tokens on its wire come from.
 use Rattle.std.specs.Prelude.{◌≡◌, Some}
 use Rattle.graph_core.specs.declared.kind.Kind.{Kind}
-use Rattle.graph_core.specs.declared.kind.Kind.TheVariants.{Entry, Exit, Buffer, Fork}
+use Rattle.graph_core.specs.declared.kind.Kind.TheVariants.{Buffer, Fork}
 use Rattle.graph_core.specs.Name.{Port}
 use Rattle.module_sem.specs.Circuit.{Circuit}
 use Rattle.module_sem.specs.Buffers.{first_port}
 
 -- the kinds that a walk backwards goes through
 abbrev pub PassesThrough : Kind → Type 0
-PassesThrough (Entry shape) = ⊥
-PassesThrough (Exit shape) = ⊥
 PassesThrough (Buffer shape) = Unit {0}
 PassesThrough (Fork shape count) = Unit {0}
+PassesThrough _ = ⊥
 
 -- backwards from input p, through Buffers and Forks, the first output of another kind is q; a walk that never ends has no root
 pub data Root (c : Circuit) : Port → Port → Type 0 where

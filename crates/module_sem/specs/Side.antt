@@ -6,6 +6,10 @@ use Rattle.graph_core.specs.Name.{Name, Port}
 abbrev pub Token : Type 0
 Token = List ℕ
 
+-- a token of one field
+abbrev pub single : ℕ → Token
+single number = number ∷ []
+
 -- a single token
 abbrev pub one : Token → List Token
 one v = v ∷ []

@@ -1,14 +1,29 @@
 //! What circuits do: their states and steps, what is seen of a run, when one circuit refines another, and what a circuit drains.
 //!
-//! The crate has definitions and laws, and no calls: each function has an empty body, and a law of `specs/` for its contract.
+//! The crate has definitions and laws, and no calls: each function has a law of `specs/` for its contract, and a body that is empty or calls laws of a lower crate.
 #![tactic(auto)]
 
-ghost use Rattle.module_sem.specs.Laws.{StartIsState, StepKeepsState, RefinesItself, RefinesInSteps, RefinesAlone, PlugIsTyped, WholeRefines, DropRefines, PutRefines, CircuitIsTyped, GraphIsTyped, GraphDropRefines, GraphPutRefines, WireIsTyped, WireShowsToken, WireShowsNoOther, RootIsOne, RingHasNoRoot, RestIsOne, RestsWithoutInit, StartRests, DropDrains, GraphDropDrains, WireDrains};
+ghost use Rattle.module_sem.specs.Laws.{StartIsState, StepKeepsState, RunReachesState, FiringIsOne, TaggerKeepsOrder, RefinesItself, RefinesInSteps, RefinesAlone, PlugIsTyped, WholeRefines, DropRefines, PutRefines, CircuitIsTyped, GraphIsTyped, GraphDropRefines, GraphPutRefines, WireIsTyped, WireShowsToken, WireShowsNoOther, RootIsOne, RingHasNoRoot, RestIsOne, GraphRests, RestsWithoutInit, DropDrains, GraphDropDrains, WireDrains, TaggerIsTyped, TaggerShowsInOrder, TaggerShowsNoOther, InitIsTyped, InitRests, InitDrains};
 
-/// In each state that a typed circuit reaches, tokens fit the shapes of their wires.
+use op_table::value_fits;
+
+/// In each state that a typed circuit reaches, tokens fit the shapes of their wires, what stands in the slots of Taggers fits, and the tags of the slots of each differ.
 pub fn states_fit()
     ensures start { StartIsState }
     ensures step { StepKeepsState }
+    ensures run { RunReachesState }
+{
+    value_fits();
+}
+
+/// A node that fires with a choice in a state leads to one state: all that is open in a run is who goes next, and with which choice.
+pub fn one_firing()
+    ensures { FiringIsOne }
+{}
+
+/// A Tagger gives results in the order in which it gave out their tags, whatever the order in which they came back.
+pub fn tagger_keeps_order()
+    ensures { TaggerKeepsOrder }
 {}
 
 /// A typed circuit refines itself.
@@ -40,7 +55,9 @@ pub fn whole_refines()
 pub fn buffer_shows_nothing()
     ensures dropped { DropRefines }
     ensures put { PutRefines }
-{}
+{
+    value_fits();
+}
 
 /// A graph is typed exactly where its circuit is.
 pub fn graph_typed_as_circuit()
@@ -52,7 +69,9 @@ pub fn graph_typed_as_circuit()
 pub fn graph_buffer_shows_nothing()
     ensures dropped { GraphDropRefines }
     ensures put { GraphPutRefines }
-{}
+{
+    value_fits();
+}
 
 /// The definitions are met and refuse: a wire from an Entry to an Exit shows a token that is fed and then taken, and none that is taken first.
 pub fn wire_shows_tokens()
@@ -67,11 +86,11 @@ pub fn one_root()
     ensures none { RingHasNoRoot }
 {}
 
-/// The Buffers and Forks that Inits lead to may fire in any order: a circuit has at most one rest state, and with no Init it is the start.
+/// The Buffers and Forks that Inits lead to may fire in any order: a circuit has at most one rest state, a graph has one, and with no Init it is the start.
 pub fn one_rest()
     ensures one { RestIsOne }
+    ensures graph { GraphRests }
     ensures without_init { RestsWithoutInit }
-    ensures start { StartRests }
 {}
 
 /// What a circuit drains it drains without a Buffer.
@@ -83,4 +102,20 @@ pub fn buffer_keeps_drains()
 /// The definition of drains is met and refuses: a wire from an Entry to an Exit drains tokens that fit to themselves, and to nothing else.
 pub fn wire_drains_tokens()
     ensures { WireDrains }
+{}
+
+/// The definition of a Tagger is met and refuses: two tokens go out with two tags, and the results leave in their order although the second comes back first;
+/// while the first is not back, none leaves.
+pub fn tagger_shows_results()
+    ensures typed { TaggerIsTyped }
+    ensures in_order { TaggerShowsInOrder }
+    ensures no_other { TaggerShowsNoOther }
+{}
+
+/// The definitions of rest and drains are met and refuse where an Init leads: its value passes the Buffer behind it, and bits drain to the value followed by them,
+/// and to nothing else.
+pub fn init_drains_bits()
+    ensures typed { InitIsTyped }
+    ensures rests { InitRests }
+    ensures drains { InitDrains }
 {}

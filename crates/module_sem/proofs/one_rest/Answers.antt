@@ -1,4 +1,5 @@
-use Rattle.module_sem.proofs.Resting.{rest_is_one, rests_without_init, start_rests}
+use Rattle.module_sem.proofs.Resting.{rest_is_one, rests_without_init}
+use Rattle.module_sem.proofs.RestFound.{graph_rests}
 use Rattle.module_sem.proofs.one_rest.Goals as goal
 
 pub returns-clause-one : goal.returns-clause-one
@@ -7,5 +8,5 @@ returns-clause-one c = rest_is_one
 pub returns-clause-without_init : goal.returns-clause-without_init
 returns-clause-without_init c = rests_without_init
 
-pub returns-clause-start : goal.returns-clause-start
-returns-clause-start c = λ d ty. start_rests d
+pub returns-clause-graph : goal.returns-clause-graph
+returns-clause-graph c = graph_rests
