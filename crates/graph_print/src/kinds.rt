@@ -11,8 +11,8 @@ use port_types::{NoMemory, Side, Text};
 use std::alloc::Global;
 use std::fmt::Write;
 
-/// The word of a kind, as the type of a node.
-pub(crate) fn kind_word(kind: &Kind) -> &'static str
+/// The word of a kind, as the `type` of a node.
+pub fn kind_word(kind: &Kind) -> &'static str
     ensures { result.now ≡ kind_word kind.now }
 {
     match kind {

@@ -1,4 +1,7 @@
 //! The canonical text of a graph: its nodes in the byte order of their names, and then its wires.
+//!
+//! - `text_of`: the canonical text.
+//! - `kind_word`: the word of a kind, as the `type` of a node.
 #![tactic(auto)]
 
 mod document;
@@ -12,4 +15,5 @@ mod printer;
 mod tests;
 mod texts;
 
+pub use kinds::kind_word;
 pub use printer::text_of;

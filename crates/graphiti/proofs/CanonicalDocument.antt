@@ -19,14 +19,15 @@ use Rattle.graph_core.specs.Name.{Name, Port, name_cmp, port_cmp, port_get, IsNa
 use Rattle.graph_core.specs.Kind.{Shape, ins, outs, KindOk}
 use Rattle.graph_core.specs.Node.{Body}
 use Rattle.graph_core.specs.NamedGraph.{NamedGraph, IsWire}
-use Rattle.graph_print.specs.CanonicalText.{kind_word, own_pairs, side_pairs, pairs_of, node_entry, edge_entry, canonical_document}
+use Rattle.graph_print.specs.CanonicalText.{kind_word, pairs_of, node_entry, edge_entry, canonical_document}
 use Rattle.graphiti.specs.Plain.{ReadsNode, ReadsNodes, ReadsEdges, IsPlainOf}
 use Rattle.graphiti.specs.ReadBack.{CanBeWritten, CanBeKept, CanBeRead, TextReadsBack}
 use Rattle.graphiti.proofs.Lookups.{name_total, name_same, port_total, port_same}
 use Rattle.graphiti.proofs.PlainLists.{AreApart, pairs-from_apart, each_entry}
 use Rattle.graphiti.proofs.PlainValues.{no_answer}
-use Rattle.graphiti.proofs.SimpleTexts.{simple, simple_written, side_simple, name_simple, few_ports, ports_simple, word_simple}
-use Rattle.graphiti.proofs.CanonicalPairs.{apart-from_sorted, from_entries-entries, no_own, reads_canonical}
+use Rattle.graphiti.proofs.SimpleTexts.{simple, simple_written, side_simple, name_simple, ports_simple, word_simple}
+use Rattle.graphiti.proofs.PortCounts.{few_ports}
+use Rattle.graphiti.proofs.CanonicalPairs.{apart-from_sorted, from_entries-entries, plain_side, plain_pairs, reads_canonical}
 
 -- ---- lists of which each item is so
 
@@ -74,25 +75,23 @@ port_get-few (y ∷ xs) zero x is = omega arith
 port_get-few (y ∷ xs) (suc zero) x is = omega arith
 port_get-few (y ∷ xs) (suc (suc i)) x is = omega (arith, port_get-few xs (suc i) x is)
 
-side_written : (side : Side) (shapes : List Shape) → simple (ports_text side shapes) ≡ true → EachOf (PairTexts CanBeWritten) (side_pairs side shapes)
+side_written : (side : Side) (shapes : List Shape) → simple (ports_text side shapes) ≡ true → EachOf (PairTexts CanBeWritten) (plain_side side shapes)
 side_written side [] h = tt
 side_written side (shape ∷ shapes) h = ((simple_written (side_word side) (side_simple side), simple_written (ports_text side (shape ∷ shapes)) h), tt)
 
-own_written : (kind : Kind) → EachOf (PairTexts CanBeWritten) (own_pairs kind)
-own_written kind = subst (EachOf (PairTexts CanBeWritten)) (sym (no_own kind)) tt
-
-pairs_written : (body : Body) → KindOk body.kind → EachOf (PairTexts CanBeWritten) (map_of.entries body.kept) → EachOf (PairTexts CanBeWritten) (pairs_of body)
-pairs_written body right kept =
+pairs_written : (body : Body) → KindOk body.kind → HasOneField body.kind → EachOf (PairTexts CanBeWritten) (map_of.entries body.kept) → EachOf (PairTexts CanBeWritten) (pairs_of body)
+pairs_written body right one kept =
     let W = PairTexts CanBeWritten in
     let first : Pair = (codes "type", kind_word body.kind) in
-    let inputs = side_pairs Ins (ins body.kind) in
-    let outputs = side_pairs Outs (outs body.kind) in
-    let own = own_pairs body.kind in
+    let inputs = plain_side Ins (ins body.kind) in
+    let outputs = plain_side Outs (outs body.kind) in
     let type : W first = (simple_written (codes "type") refl, simple_written (kind_word body.kind) (word_simple body.kind)) in
-    let front : EachOf W (first ∷ inputs) = (type, side_written Ins (ins body.kind) (ports_simple body.kind Ins right)) in
-    each_append W ((first ∷ inputs ++ outputs) ++ own) (map_of.entries body.kept)
-    (each_append W (first ∷ inputs ++ outputs) own (each_append W (first ∷ inputs) outputs front (side_written Outs (outs body.kind) (ports_simple body.kind Outs right))) (own_written body.kind))
-    kept
+    let front : EachOf W (first ∷ inputs) = (type, side_written Ins (ins body.kind) (ports_simple body.kind Ins right one)) in
+    subst (EachOf W) (sym (plain_pairs body one)) (
+      each_append W ((first ∷ inputs ++ outputs) ++ []) (map_of.entries body.kept)
+      (each_append W (first ∷ inputs ++ outputs) [] (each_append W (first ∷ inputs) outputs front (side_written Outs (outs body.kind) (ports_simple body.kind Outs right one))) tt)
+      kept
+    )
 
 -- ---- in the words of the laws of documents
 
@@ -131,7 +130,7 @@ module _ (g : NamedGraph) (within : CanBeRead g) where
   wire_apart = apart-from_sorted port_cmp (map_of.entries g.feeders) (map_of.entries_sorted g.feeders)
 
   reads_at : (name : Name) (body : Body) → map_of.get g.nodes name ≡ Some body → ReadsNode (node_entry (name, body)) body
-  reads_at name body is = reads_canonical body (λ key value there. (within.kept name body key value is there).unowned) name (within.typed.kinds name body is) (within.one_field name body is)
+  reads_at name body is = reads_canonical body (within.one_field name body is) (λ key value there. (within.kept name body key value is there).unowned) name (within.typed.kinds name body is)
 
   each_reads : AllByRecursion (λ e. ReadsNode (node_entry e) e.1) (map_of.entries g.nodes)
   each_reads =
@@ -166,7 +165,7 @@ module _ (g : NamedGraph) (within : CanBeRead g) where
       (kept.written_key, kept.written_value)))
 
   node_texts : (name : Name) (body : Body) → map_of.get g.nodes name ≡ Some body → NodeTexts CanBeWritten (node_entry (name, body))
-  node_texts name body is = (name_at name body is, pairs_written body (within.typed.kinds name body is) (kept_at name body is))
+  node_texts name body is = (name_at name body is, pairs_written body (within.typed.kinds name body is) (within.one_field name body is) (kept_at name body is))
 
   edge_texts : (target source : Port) → map_of.get g.feeders target ≡ Some source → EdgeTexts CanBeWritten (edge_entry (target, source))
   edge_texts target source is =

@@ -1,5 +1,5 @@
 -- The pairs of a printed node are those of its kind, and those that it keeps.
-use Rattle.std.proofs.Common.{◌≡◌, ◌≢◌, ◌⊎◌, inl, inr, ℕ, Bool, true, false, cond, ◌||◌, T, List, [], ◌∷◌, ◌++◌, length, Option, Some, None, Ordering, codes, refl, sym, ap, subst, ◌∙◌}
+use Rattle.std.proofs.Common.{◌≡◌, ◌≢◌, ◌⊎◌, inl, inr, ℕ, ◌+◌, Bool, true, false, cond, ◌||◌, T, List, [], ◌∷◌, ◌++◌, length, Option, Some, None, Ordering, codes, refl, sym, ap, subst, ◌∙◌}
 use Rattle.std.specs.Prelude.{bytes_eq, AllPairs}
 use Rattle.std.specs.Cmp.{IsTotalOrder}
 use Rattle.std.specs.Option.{option_or}
@@ -10,14 +10,16 @@ use Rattle.std.proofs.lemmas.Bool.{true≢false}
 use Rattle.std.proofs.lemmas.Slice.Eq.{bytes_eq-Decides}
 use Rattle.port_types.specs.declared.side.Side.{Side}
 use Rattle.port_types.specs.declared.side.Side.TheVariants.{Ins, Outs}
-use Rattle.port_types.specs.PortText.{side_word, ports_text}
+use Rattle.port_types.specs.PortText.{side_word, port_name, shape_text, port_text, port_texts_from, ports_text, marker_text, marked_text, marked_texts_from}
+use Rattle.std.specs.List.{list_any, join_with_byte}
+use Rattle.std.proofs.lemmas.List.{append-nil}
 use Rattle.dot_text.specs.Grammar.{Pair}
 use Rattle.graph_core.specs.declared.kind.Kind.{Kind}
 use Rattle.graph_core.specs.declared.kind.Kind.TheVariants.{Entry, Exit, Buffer, Fork}
 use Rattle.graph_core.specs.Name.{Name, name_cmp}
 use Rattle.graph_core.specs.Kind.{Shape, ins, outs, KindOk}
-use Rattle.graph_core.specs.Node.{Body, IsOwned}
-use Rattle.graph_print.specs.CanonicalText.{kind_word, own_pairs, side_pairs, pairs_of, node_entry}
+use Rattle.graph_core.specs.Node.{Body, IsOwned, row_keys}
+use Rattle.graph_print.specs.CanonicalText.{kind_word, own_pairs, marker, marked_from, printed_side, pairs_of, node_entry}
 use Rattle.graphiti.specs.Plain.{last_value, is_owned, kept_of, side_value, HasOneField, ReadsNode}
 use Rattle.graphiti.proofs.EntryLists as lists
 use Rattle.graphiti.proofs.Lookups.{name_total, name_same, name_cases}
@@ -56,28 +58,61 @@ last_value-apart key (pair ∷ pairs) apart =
           ∙ or_none (last_value key pairs) ∙ last_value-apart key pairs apart.1 ∙ sym (found_behind name_total name_same pair pairs key other)
     ]
 
-side_last : (side : Side) (shapes : List Shape) → last_value (side_word side) (side_pairs side shapes) ≡ side_value side shapes
+-- the ports of a side as a plain document has them
+abbrev pub plain_side : Side → List Shape → List Pair
+plain_side side [] = []
+plain_side side (shape ∷ shapes) = (side_word side, ports_text side (shape ∷ shapes)) ∷ []
+
+side_last : (side : Side) (shapes : List Shape) → last_value (side_word side) (plain_side side shapes) ≡ side_value side shapes
 side_last Ins [] = refl
 side_last Ins (shape ∷ shapes) = refl
 side_last Outs [] = refl
 side_last Outs (shape ∷ shapes) = refl
 
-side_other : (key : List ℕ) (side : Side) (shapes : List Shape) → key ≢ side_word side → last_value key (side_pairs side shapes) ≡ None
+side_other : (key : List ℕ) (side : Side) (shapes : List Shape) → key ≢ side_word side → last_value key (plain_side side shapes) ≡ None
 side_other key side [] other = refl
 side_other key side (shape ∷ shapes) other = ap (λ (t : Bool). cond t (Some (ports_text side (shape ∷ shapes))) None) (other_bytes key (side_word side) other)
 
-pub no_own : (kind : Kind) → own_pairs kind ≡ []
-no_own (Entry shape) = refl
-no_own (Exit shape) = refl
-no_own (Buffer shape) = refl
-no_own (Fork shape count) = refl
+-- the kinds of plain documents own nothing alone, and their ports have no markers
 
-owned_by : (a b c : Bool) → (a || b || c) ≡ true → (a ≡ true) ⊎ ((b ≡ true) ⊎ (c ≡ true))
-owned_by true b c e = inl refl
-owned_by false true c e = inr (inl refl)
-owned_by false false c e = inr (inr e)
+pub no_own : (kind : Kind) → HasOneField kind → own_pairs kind ≡ []
+no_own (Entry shape) one = refl
+no_own (Exit shape) one = refl
+no_own (Buffer shape) one = refl
+no_own (Fork shape count) one = refl
+no_own _ one = absurd one
 
-module _ (body : Body) where
+no_marker : (kind : Kind) → HasOneField kind → (side : Side) (number : ℕ) → marker kind side number ≡ None
+no_marker (Entry shape) one side number = refl
+no_marker (Exit shape) one side number = refl
+no_marker (Buffer shape) one side number = refl
+no_marker (Fork shape count) one side number = refl
+no_marker _ one side number = absurd one
+
+plain_text : (kind : Kind) → HasOneField kind → (side : Side) (number : ℕ) (shape : Shape) → marked_text side number (record { marker = marker kind side number; shape = shape }) ≡ port_text side number shape
+plain_text kind one side number shape =
+    (λ i. port_name side number ++ marker_text (no_marker kind one side number i) ++ codes ":" ++ shape_text shape)
+    ∙ ap (λ name. name ++ codes ":" ++ shape_text shape) (append-nil (port_name side number))
+
+plain_texts_from : (kind : Kind) → HasOneField kind → (side : Side) (number : ℕ) (shapes : List Shape) → marked_texts_from side number (marked_from kind side number shapes) ≡ port_texts_from side number shapes
+plain_texts_from kind one side number [] = refl
+plain_texts_from kind one side number (shape ∷ shapes) = λ i. plain_text kind one side number shape i ∷ plain_texts_from kind one side (number + 1) shapes i
+
+side_is : (kind : Kind) → HasOneField kind → (side : Side) (shapes : List Shape) → printed_side side (marked_from kind side 1 shapes) ≡ plain_side side shapes
+side_is kind one side [] = refl
+side_is kind one side (shape ∷ shapes) = λ i. (side_word side, join_with_byte 32 (plain_texts_from kind one side 1 (shape ∷ shapes) i)) ∷ []
+
+pub plain_pairs : (body : Body) → HasOneField body.kind → pairs_of body ≡ (codes "type", kind_word body.kind) ∷ plain_side Ins (ins body.kind) ++ plain_side Outs (outs body.kind) ++ [] ++ map.entries body.kept
+plain_pairs body one =
+    λ i. (codes "type", kind_word body.kind) ∷ side_is body.kind one Ins (ins body.kind) i ++ side_is body.kind one Outs (outs body.kind) i ++ no_own body.kind one i ++ map.entries body.kept
+
+in_any : (a b c d : Bool) → (a || b || c) ≡ true → (a || (b || (c || d))) ≡ true
+in_any true b c d e = refl
+in_any false true c d e = refl
+in_any false false true d e = refl
+in_any false false false d e = absurd (true≢false (sym e))
+
+module _ (body : Body) (one : HasOneField body.kind) where
   abbrev kept_pairs : List Pair
   kept_pairs = map.entries body.kept
 
@@ -85,16 +120,16 @@ module _ (body : Body) where
   first_pair = (codes "type", kind_word body.kind)
 
   abbrev in_pairs : List Pair
-  in_pairs = side_pairs Ins (ins body.kind)
+  in_pairs = plain_side Ins (ins body.kind)
 
   abbrev out_pairs : List Pair
-  out_pairs = side_pairs Outs (outs body.kind)
+  out_pairs = plain_side Outs (outs body.kind)
 
   -- part by part, from the last
   in_parts : (key : List ℕ) → last_value key (pairs_of body) ≡ option_or (last_value key kept_pairs) (option_or (last_value key out_pairs) (option_or (last_value key in_pairs) (last_value key (first_pair ∷ []))))
   in_parts key =
-      last_value-append key ((((first_pair ∷ in_pairs) ++ out_pairs) ++ own_pairs body.kind)) kept_pairs
-      ∙ ap (λ (own : List Pair). option_or (last_value key kept_pairs) (last_value key (((first_pair ∷ in_pairs) ++ out_pairs) ++ own))) (no_own body.kind)
+      ap (last_value key) (plain_pairs body one)
+      ∙ last_value-append key (((first_pair ∷ in_pairs) ++ out_pairs) ++ []) kept_pairs
       ∙ ap (option_or (last_value key kept_pairs)) (last_value-append key ((first_pair ∷ in_pairs) ++ out_pairs) [] ∙ last_value-append key (first_pair ∷ in_pairs) out_pairs ∙ ap (option_or (last_value key out_pairs)) (last_value-append key (first_pair ∷ []) in_pairs))
 
   module _ (unowned : (key value : List ℕ) → map.get body.kept key ≡ Some value → ¬ (IsOwned body.kind key)) where
@@ -111,18 +146,18 @@ module _ (body : Body) where
     says_type : last_value (codes "type") (pairs_of body) ≡ Some (kind_word body.kind)
     says_type =
         in_parts (codes "type")
-        ∙ (λ i. option_or (owned_none (codes "type") (inl refl) i) (option_or (side_other (codes "type") Outs (outs body.kind) (λ e. cc) i) (option_or (side_other (codes "type") Ins (ins body.kind) (λ e. cc) i) (Some (kind_word body.kind)))))
+        ∙ (λ i. option_or (owned_none (codes "type") refl i) (option_or (side_other (codes "type") Outs (outs body.kind) (λ e. cc) i) (option_or (side_other (codes "type") Ins (ins body.kind) (λ e. cc) i) (Some (kind_word body.kind)))))
 
     says_ins : last_value (codes "in") (pairs_of body) ≡ side_value Ins (ins body.kind)
     says_ins =
         in_parts (codes "in")
-        ∙ (λ i. option_or (owned_none (codes "in") (inr (inl refl)) i) (option_or (side_other (codes "in") Outs (outs body.kind) (λ e. cc) i) (option_or (side_last Ins (ins body.kind) i) None)))
+        ∙ (λ i. option_or (owned_none (codes "in") refl i) (option_or (side_other (codes "in") Outs (outs body.kind) (λ e. cc) i) (option_or (side_last Ins (ins body.kind) i) None)))
         ∙ or_none (side_value Ins (ins body.kind))
 
     says_outs : last_value (codes "out") (pairs_of body) ≡ side_value Outs (outs body.kind)
     says_outs =
         in_parts (codes "out")
-        ∙ (λ i. option_or (owned_none (codes "out") (inr (inr refl)) i) (option_or (side_last Outs (outs body.kind) i) (option_or (side_other (codes "out") Ins (ins body.kind) (λ e. cc) i) None)))
+        ∙ (λ i. option_or (owned_none (codes "out") refl i) (option_or (side_last Outs (outs body.kind) i) (option_or (side_other (codes "out") Ins (ins body.kind) (λ e. cc) i) None)))
         ∙ or_none (side_value Outs (outs body.kind))
 
     -- a key that no kind owns
@@ -137,12 +172,7 @@ module _ (body : Body) where
           ∙ or_none (map.get body.kept key)
 
     owned_key : (key : List ℕ) → is_owned key ≡ true → IsOwned body.kind key
-    owned_key key is =
-        elim (owned_by (bytes_eq key (codes "type")) (bytes_eq key (codes "in")) (bytes_eq key (codes "out")) is) [
-          | inl e ↦ inl ((bytes_eq-Decides key (codes "type")).0 e)
-          | inr (inl e) ↦ inr (inl ((bytes_eq-Decides key (codes "in")).0 e))
-          | inr (inr e) ↦ inr (inr ((bytes_eq-Decides key (codes "out")).0 e))
-        ]
+    owned_key key is = in_any (bytes_eq key (codes "type")) (bytes_eq key (codes "in")) (bytes_eq key (codes "out")) (list_any (bytes_eq key) (row_keys body.kind)) is
 
     kept_at : (key : List ℕ) (owned : Bool) → is_owned key ≡ owned → map.get body.kept key ≡ cond owned None (last_value key (pairs_of body))
     kept_at key true is = none_if key (owned_key key is) (map.get body.kept key) refl
@@ -153,5 +183,5 @@ module _ (body : Body) where
         map.same_map name_total name_same body.kept (kept_of (pairs_of body))
         (λ q. kept_at q (is_owned q) refl ∙ sym (in_reverse q (pairs_of body)) ∙ sym (map.get-from_entries name_total _ q))
 
-    pub reads_canonical : (name : Name) → KindOk body.kind → HasOneField body.kind → ReadsNode (node_entry (name, body)) body
-    reads_canonical name right one = record { type = says_type; inputs = says_ins; outputs = says_outs; kind = right; one_field = one; kept = keeps }
+    pub reads_canonical : (name : Name) → KindOk body.kind → ReadsNode (node_entry (name, body)) body
+    reads_canonical name right = record { type = says_type; inputs = says_ins; outputs = says_outs; kind = right; one_field = one; kept = keeps }

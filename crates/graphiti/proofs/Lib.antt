@@ -15,6 +15,7 @@ pub mod WordLists
 pub mod Numerals
 pub mod LinePieces
 pub mod Ports
+pub mod PortCounts
 pub mod PlainValues
 pub mod PlainLists
 pub mod PlainKinds

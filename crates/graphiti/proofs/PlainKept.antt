@@ -11,8 +11,10 @@ use Rattle.std.proofs.lemmas.List.Elements.{filter-append, All-from_recursion}
 use Rattle.std.proofs.lemmas.Slice.Eq.{bytes_eq-Decides}
 use Rattle.graph_core.specs.declared.kind.Kind.{Kind}
 use Rattle.graph_core.specs.Name.{Name, name_cmp}
+use Rattle.graph_core.specs.declared.kind.Kind.TheVariants.{Entry, Exit, Buffer, Fork}
+use Rattle.graph_core.specs.Node as core_node
 use Rattle.graph_core.specs.Node.{IsOwned, KeptOk}
-use Rattle.graphiti.specs.Plain.{last_value, is_owned, kept_of}
+use Rattle.graphiti.specs.Plain.{last_value, is_owned, kept_of, HasOneField}
 use Rattle.graphiti.specs.PlainParts.{last_pairs}
 use Rattle.graphiti.proofs.EntryLists.{find-append}
 use Rattle.graphiti.proofs.Lookups.{name_total, name_same, name_cases}
@@ -137,33 +139,43 @@ unfolding LastKept
 last_apart [] = tt
 last_apart (pair ∷ pairs) = apart_more pair (last_pairs pairs) (is_owned pair.0) (last_value pair.0 pairs) (last_kept pair.0 pairs) (last_apart pairs)
 
-pub not_owned : (kind : Kind) (key : List ℕ) → is_owned key ≡ false → IsOwned kind key → ⊥
-not_owned kind key unowned owned =
-    elim owned [
-      | inl is ↦ true≢false (sym (ap is_owned is) ∙ unowned)
-      | inr (inl is) ↦ true≢false (sym (ap is_owned is) ∙ unowned)
-      | inr (inr is) ↦ true≢false (sym (ap is_owned is) ∙ unowned)
-    ]
+three_or_none : (a b c : Bool) → (a || b || c) ≡ false → (a || (b || (c || false))) ≡ false
+three_or_none true b c e = absurd (true≢false e)
+three_or_none false true c e = absurd (true≢false e)
+three_or_none false false true e = absurd (true≢false e)
+three_or_none false false false e = refl
+
+-- the kinds of plain documents own no more
+plain_owns : (kind : Kind) (key : List ℕ) → HasOneField kind → core_node.is_owned kind key ≡ (bytes_eq key (codes "type") || (bytes_eq key (codes "in") || (bytes_eq key (codes "out") || false)))
+plain_owns (Entry shape) key one = refl
+plain_owns (Exit shape) key one = refl
+plain_owns (Buffer shape) key one = refl
+plain_owns (Fork shape count) key one = refl
+plain_owns _ key one = absurd one
+
+pub not_owned : (kind : Kind) (key : List ℕ) → HasOneField kind → is_owned key ≡ false → IsOwned kind key → ⊥
+not_owned kind key one unowned owned =
+    true≢false (sym owned ∙ plain_owns kind key one ∙ three_or_none (bytes_eq key (codes "type")) (bytes_eq key (codes "in")) (bytes_eq key (codes "out")) unowned)
 
 AreUnowned : Kind → List (List ℕ × List ℕ) → Type 0
 AreUnowned kind pairs = AllByRecursion (λ pair. ¬ (IsOwned kind pair.0)) pairs
 
-unowned_more : (kind : Kind) (pair : List ℕ × List ℕ) (kept : List (List ℕ × List ℕ)) (b c : Bool) → is_owned pair.0 ≡ b → AreUnowned kind kept → AreUnowned kind (cond (not b && c) (pair ∷ kept) kept)
+unowned_more : (kind : Kind) → HasOneField kind → (pair : List ℕ × List ℕ) (kept : List (List ℕ × List ℕ)) (b c : Bool) → is_owned pair.0 ≡ b → AreUnowned kind kept → AreUnowned kind (cond (not b && c) (pair ∷ kept) kept)
 unfolding AreUnowned
-unowned_more kind pair kept true c is unowned = unowned
-unowned_more kind pair kept false true is unowned = (not_owned kind pair.0 is, unowned)
-unowned_more kind pair kept false false is unowned = unowned
+unowned_more kind one pair kept true c is unowned = unowned
+unowned_more kind one pair kept false true is unowned = (not_owned kind pair.0 one is, unowned)
+unowned_more kind one pair kept false false is unowned = unowned
 
-last_unowned : (kind : Kind) (pairs : List (List ℕ × List ℕ)) → AreUnowned kind (last_pairs pairs)
+last_unowned : (kind : Kind) → HasOneField kind → (pairs : List (List ℕ × List ℕ)) → AreUnowned kind (last_pairs pairs)
 unfolding AreUnowned
-last_unowned kind [] = tt
-last_unowned kind (pair ∷ pairs) = unowned_more kind pair (last_pairs pairs) (is_owned pair.0) (is_none (last_value pair.0 pairs)) refl (last_unowned kind pairs)
+last_unowned kind one [] = tt
+last_unowned kind one (pair ∷ pairs) = unowned_more kind one pair (last_pairs pairs) (is_owned pair.0) (is_none (last_value pair.0 pairs)) refl (last_unowned kind one pairs)
 
-pub KeptOk-last_pairs : (kind : Kind) (pairs : List (List ℕ × List ℕ)) → KeptOk kind (last_pairs pairs)
+pub KeptOk-last_pairs : (kind : Kind) → HasOneField kind → (pairs : List (List ℕ × List ℕ)) → KeptOk kind (last_pairs pairs)
 unfolding AreUnowned
-KeptOk-last_pairs kind pairs = record {
+KeptOk-last_pairs kind one pairs = record {
   distinct = pairs-from_apart name_total name_same (last_pairs pairs) (last_apart pairs);
-  unowned = All-from_recursion (λ pair. ¬ (IsOwned kind pair.0)) (last_pairs pairs) (last_unowned kind pairs);
+  unowned = All-from_recursion (λ pair. ¬ (IsOwned kind pair.0)) (last_pairs pairs) (last_unowned kind one pairs);
 }
 
 -- the pairs from this index on, in terms of the next ones

@@ -149,13 +149,14 @@ says-named pairs (kinds.Exit (width ∷ [])) ok one says =
     (Exit width, refl, by_word pairs (codes "Exit") (Exit width) says.type (exit_named pairs width (narrow width ok) (some_text (last_value (codes "in") pairs) (port_text Ins 1 (width ∷ [])) (codes "in1:" ++ decimal width) says.inputs (in_text width))))
 says-named pairs (kinds.Buffer (width ∷ [])) ok one says =
     (Buffer width, refl, by_word pairs (codes "Buffer") (Buffer width) says.type (buffer_named pairs width (narrow width ok) (some_text (last_value (codes "in") pairs) (port_text Ins 1 (width ∷ [])) (codes "in1:" ++ decimal width) says.inputs (in_text width))))
-says-named pairs (kinds.Fork (width ∷ []) zero) ok one says = absurd (omega (arith, ok.1))
+says-named pairs (kinds.Fork (width ∷ []) zero) ok one says = absurd (omega (arith, ok.1.0))
 says-named pairs (kinds.Fork (width ∷ []) (suc count)) ok one says =
-    (Fork width (suc count), refl, by_word pairs (codes "Fork") (Fork width (suc count)) says.type (fork_named pairs width count ok.2 (narrow width ok.0) (some_text (last_value (codes "in") pairs) (port_text Ins 1 (width ∷ [])) (codes "in1:" ++ decimal width) says.inputs (in_text width)) says.outputs))
+    (Fork width (suc count), refl, by_word pairs (codes "Fork") (Fork width (suc count)) says.type (fork_named pairs width count ok.1.1 (narrow width ok.0) (some_text (last_value (codes "in") pairs) (port_text Ins 1 (width ∷ [])) (codes "in1:" ++ decimal width) says.inputs (in_text width)) says.outputs))
 says-named pairs (kinds.Entry _) ok one says = absurd cc
 says-named pairs (kinds.Exit _) ok one says = absurd cc
 says-named pairs (kinds.Buffer _) ok one says = absurd cc
 says-named pairs (kinds.Fork _ _) ok one says = absurd cc
+says-named pairs _ ok one says = absurd one
 
 pub HasOneField-kind_of : (small : FieldKind) → HasOneField (kind_of small)
 HasOneField-kind_of (Entry width) = refl

@@ -11,7 +11,8 @@ use Rattle.dot_text.specs.declared.doc.Doc.{Doc}
 use Rattle.dot_text.specs.declared.doc.DocNode.{DocNode}
 use Rattle.dot_text.specs.declared.doc.DocEdge.{DocEdge}
 use Rattle.graph_core.specs.declared.kind.Kind.{Kind}
-use Rattle.graph_core.specs.declared.kind.Kind.TheVariants.{Entry, Exit, Buffer, Fork}
+use Rattle.port_types.specs.declared.side.Side.TheVariants.{Ins, Outs}
+use Rattle.graphiti.proofs.PortCounts.{few_ports}
 use Rattle.graph_core.specs.Name.{Name, Port, name_cmp, port_cmp, port_get, IsName}
 use Rattle.graph_core.specs.Kind.{ins, outs, KindOk}
 use Rattle.graph_core.specs.Node.{Body}
@@ -276,25 +277,13 @@ port_within (y ∷ ys) zero x e = omega arith
 port_within (y ∷ ys) (suc zero) x e = omega arith
 port_within (y ∷ ys) (suc (suc i)) x e = omega (arith, port_within ys (suc i) x e)
 
-few_outs : (kind : Kind) → KindOk kind → length (outs kind) ≤ 64
-few_outs (Entry shape) ok = omega arith
-few_outs (Exit shape) ok = omega arith
-few_outs (Buffer shape) ok = omega arith
-few_outs (Fork shape count) ok = omega (arith, ok.2, length-replicate count shape)
-
-few_ins : (kind : Kind) → length (ins kind) ≤ 64
-few_ins (Entry shape) = omega arith
-few_ins (Exit shape) = omega arith
-few_ins (Buffer shape) = omega arith
-few_ins (Fork shape count) = omega arith
-
 -- the ports of a wire are among the 64 of a side
 wire_within : (g : NamedGraph) → IsTyped g → (target source : Port) → map.get g.feeders target ≡ Some source → (target.port ≤ 64) × (source.port ≤ 64)
 wire_within g typed target source there =
     let wire : IsWire g source target = typed.wires target source there in
     let entering : target.port ≤ length (ins wire.to.kind) = port_within (ins wire.to.kind) target.port wire.shape wire.enters in
     let leaving : source.port ≤ length (outs wire.from.kind) = port_within (outs wire.from.kind) source.port wire.shape wire.leaves in
-    (omega (arith, few_ins wire.to.kind, entering), omega (arith, few_outs wire.from.kind (typed.kinds source.node wire.from wire.is_from), leaving))
+    (omega (arith, few_ports wire.to.kind Ins (typed.kinds target.node wire.to wire.is_to), entering), omega (arith, few_ports wire.from.kind Outs (typed.kinds source.node wire.from wire.is_from), leaving))
 
 pub plain_nodes : (g : NamedGraph) (doc : Doc) → IsPlainOf g doc → AreNodesOf g doc.nodes
 plain_nodes g doc plain =

@@ -84,7 +84,7 @@ kept_written body statement reads written key value is =
     let parts = unowned_last (is_owned key) (last_value key statement.pairs) value found in
     let pair : IsWritten (key, value) = last_written key value statement.pairs written parts.1 in
     record {
-      unowned = not_owned body.kind key parts.0;
+      unowned = not_owned body.kind key reads.one_field parts.0;
       written_key = record { quoted = pair.0.key; utf8 = pair.1.0 };
       written_value = record { quoted = pair.0.value; utf8 = pair.1.1 };
     }

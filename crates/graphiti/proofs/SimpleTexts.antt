@@ -16,9 +16,11 @@ use Rattle.port_types.specs.Shape.{IsShape}
 use Rattle.port_types.specs.PortText.{shape_text, side_word, port_name, port_text, port_texts_from, ports_text}
 use Rattle.dot_text.specs.Lexical.{all, is_plain, Quotes, Quotes.nothing, Quotes.plain}
 use Rattle.graph_core.specs.declared.kind.Kind.{Kind}
-use Rattle.graph_core.specs.declared.kind.Kind.TheVariants.{Entry, Exit, Buffer, Fork}
+use Rattle.graph_core.specs.declared.kind.Kind.TheVariants.{Entry, Exit, Buffer, Fork, Join, Split, Operator, Constant, Source0, Sink0, Mux, Branch, Merge, CtrlMerge, Init, Tagger}
 use Rattle.graph_core.specs.Kind.{Shape, ports, KindOk}
 use Rattle.graph_print.specs.CanonicalText.{kind_word}
+use Rattle.graphiti.specs.Plain.{HasOneField}
+use Rattle.graphiti.proofs.PortCounts.{few_ports}
 use Rattle.graphiti.specs.ReadBack.{CanBeWritten}
 
 abbrev pub simple_byte : ℕ → Bool
@@ -116,32 +118,35 @@ each_narrow (suc count) shape narrow = (narrow, each_narrow count shape narrow)
 narrow_shape : (shape : Shape) → IsShape shape → IsNarrow shape
 narrow_shape shape right = recursion_from_All (λ width. width ≤ 64) shape right.narrow
 
-narrow_ports : (kind : Kind) (side : Side) → KindOk kind → AllByRecursion IsNarrow (ports kind side)
-narrow_ports (Entry shape) Ins right = tt
-narrow_ports (Entry shape) Outs right = (narrow_shape shape right, tt)
-narrow_ports (Exit shape) Ins right = (narrow_shape shape right, tt)
-narrow_ports (Exit shape) Outs right = tt
-narrow_ports (Buffer shape) Ins right = (narrow_shape shape right, tt)
-narrow_ports (Buffer shape) Outs right = (narrow_shape shape right, tt)
-narrow_ports (Fork shape count) Ins right = (narrow_shape shape right.0, tt)
-narrow_ports (Fork shape count) Outs right = each_narrow count shape (narrow_shape shape right.0)
+narrow_ports : (kind : Kind) (side : Side) → KindOk kind → HasOneField kind → AllByRecursion IsNarrow (ports kind side)
+narrow_ports (Entry shape) Ins right one = tt
+narrow_ports (Entry shape) Outs right one = (narrow_shape shape right, tt)
+narrow_ports (Exit shape) Ins right one = (narrow_shape shape right, tt)
+narrow_ports (Exit shape) Outs right one = tt
+narrow_ports (Buffer shape) Ins right one = (narrow_shape shape right, tt)
+narrow_ports (Buffer shape) Outs right one = (narrow_shape shape right, tt)
+narrow_ports (Fork shape count) Ins right one = (narrow_shape shape right.0, tt)
+narrow_ports (Fork shape count) Outs right one = each_narrow count shape (narrow_shape shape right.0)
+narrow_ports _ side right one = absurd one
 
-pub few_ports : (kind : Kind) (side : Side) → KindOk kind → length (ports kind side) ≤ 64
-few_ports (Entry shape) Ins right = omega arith
-few_ports (Entry shape) Outs right = omega arith
-few_ports (Exit shape) Ins right = omega arith
-few_ports (Exit shape) Outs right = omega arith
-few_ports (Buffer shape) Ins right = omega arith
-few_ports (Buffer shape) Outs right = omega arith
-few_ports (Fork shape count) Ins right = omega arith
-few_ports (Fork shape count) Outs right = rw (length-replicate count shape) right.2
-
-pub ports_simple : (kind : Kind) (side : Side) → KindOk kind → simple (ports_text side (ports kind side)) ≡ true
-ports_simple kind side right =
-    join_simple 32 refl (port_texts_from side 1 (ports kind side)) (port_texts_simple side 1 (ports kind side) (omega (arith, few_ports kind side right)) (narrow_ports kind side right))
+pub ports_simple : (kind : Kind) (side : Side) → KindOk kind → HasOneField kind → simple (ports_text side (ports kind side)) ≡ true
+ports_simple kind side right one =
+    join_simple 32 refl (port_texts_from side 1 (ports kind side)) (port_texts_simple side 1 (ports kind side) (omega (arith, few_ports kind side right)) (narrow_ports kind side right one))
 
 pub word_simple : (kind : Kind) → simple (kind_word kind) ≡ true
 word_simple (Entry shape) = refl
 word_simple (Exit shape) = refl
 word_simple (Buffer shape) = refl
 word_simple (Fork shape count) = refl
+word_simple (Join shapes) = refl
+word_simple (Split shapes) = refl
+word_simple (Operator op widths width) = refl
+word_simple (Constant shape width value) = refl
+word_simple (Source0 shape) = refl
+word_simple (Sink0 shape) = refl
+word_simple (Mux shape) = refl
+word_simple (Branch shape) = refl
+word_simple (Merge shape count) = refl
+word_simple (CtrlMerge shape count width) = refl
+word_simple (Init value mark) = refl
+word_simple (Tagger shape tags) = refl

@@ -34,12 +34,13 @@ abbrev pub side_value : Side → List Shape → Option (List ℕ)
 side_value side [] = None
 side_value side (shape ∷ shapes) = Some (ports_text side (shape ∷ shapes))
 
--- its ports have one field
+-- it is one of the four kinds that are read today, and its ports have one field
 abbrev pub HasOneField : Kind → Type 0
 HasOneField (Entry shape) = length shape ≡ 1
 HasOneField (Exit shape) = length shape ≡ 1
 HasOneField (Buffer shape) = length shape ≡ 1
 HasOneField (Fork shape count) = length shape ≡ 1
+HasOneField _ = ⊥
 
 -- a node statement is this node: its type and exactly the printed texts of its ports, each of one field, and what else it keeps
 pub record ReadsNode (node : DocNode) (body : Body) : Type 0 where

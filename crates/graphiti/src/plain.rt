@@ -19,6 +19,7 @@ use graph_core::{
     AddNode, AddWire, Graph, Kind, Node, PortAt, check_typed, inputs, is_name, kind_ok, outputs,
     port_shape,
 };
+use graph_print::kind_word;
 use port_types::{Items, NoMemory, Shape, Side, Text, push_ports};
 use std::alloc::Global;
 
@@ -157,18 +158,6 @@ fn kind_from(alloc: Global, kind: FieldKind) -> Result<Option<Kind>, NoMemory>
         FieldKind::Fork(_, count) => Kind::Fork(shape, count),
     };
     Ok(if kind_ok(&kind) { Some(kind) } else { None })
-}
-
-/// The word of a kind, as the type of a node.
-fn kind_word(kind: &Kind) -> &'static str
-    ensures { result.now ≡ kind_word kind.now }
-{
-    match kind {
-        Kind::Entry(_) => "Entry",
-        Kind::Exit(_) => "Exit",
-        Kind::Buffer(_) => "Buffer",
-        Kind::Fork(..) => "Fork",
-    }
 }
 
 /// How many ports a node of this kind has on a side.

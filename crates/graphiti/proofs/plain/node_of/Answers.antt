@@ -16,7 +16,7 @@ returns c =
       record {
         kind = kind.0;
         name = subst IsName (sym c.in_ok-name.ensures) (c.is_name.ensures.0 c.if-not-is_name.false);
-        kept = subst (λ (es : List (List ℕ × List ℕ)). KeptOk c.in-Some.kind es) (sym kept_is) (KeptOk-last_pairs c.in-Some.kind statement.pairs);
+        kept = subst (λ (es : List (List ℕ × List ℕ)). KeptOk c.in-Some.kind es) (sym kept_is) (KeptOk-last_pairs c.in-Some.kind kind.1.one_field statement.pairs);
       },
       c.in_ok-name.ensures,
       subst (λ (m : map.FinMap name_cmp (List ℕ)). ReadsNode statement (record { kind = c.in-Some.kind; kept = m })) (sym kept) kind.1,
