@@ -4,7 +4,8 @@ use Rattle.std.specs.List.{join_with_byte}
 use Rattle.std.specs.Fmt.{decimal}
 use Rattle.std.proofs.lemmas.List.{take_more, map-append, length-map}
 use Rattle.port_types.specs.declared.side.Side.{Side}
-use Rattle.port_types.specs.PortText.{shape_text, port_text, port_texts_from, ports_text}
+use Rattle.port_types.specs.declared.port.Port.{Port}
+use Rattle.port_types.specs.PortText.{shape_text, port_text, port_texts_from, ports_text, marked_text, marked_texts_from, marked_ports_text}
 
 -- a last piece goes behind the byte, if it is not the first
 join_with_byte-push : (c : ℕ) (pieces : List (List ℕ)) (piece : List ℕ) → join_with_byte c (pieces ++ piece ∷ []) ≡ (join_with_byte c pieces ++ (if length pieces == 0 then [] else c ∷ [])) ++ piece
@@ -40,3 +41,22 @@ next_port side shapes i d within =
     let count : length (port_texts_from side 1 before) ≡ i = rw length-port_texts_from (omega arith) in
     let texts = port_texts_from-push side 1 before (get_or shapes i d) in
     rw (take_more shapes i d within, texts, number) (rw count at (join_with_byte-push 32 (port_texts_from side 1 before) (port_text side (i + 1) (get_or shapes i d))))
+
+-- the same of ports with markers
+marked_texts_from-push : (side : Side) (number : ℕ) (ports : List Port) (port : Port) → marked_texts_from side number (ports ++ port ∷ []) ≡ marked_texts_from side number ports ++ marked_text side (number + length ports) port ∷ []
+marked_texts_from-push side number [] port = rw add-zero refl
+marked_texts_from-push side number (first ∷ ports) port =
+    let numbers : (number + 1) + length ports ≡ number + length (first ∷ ports) = omega arith in
+    ap (λ texts. marked_text side number first ∷ texts) (rw (← numbers) (marked_texts_from-push side (number + 1) ports port))
+
+length-marked_texts_from : (side : Side) (number : ℕ) (ports : List Port) → length (marked_texts_from side number ports) ≡ length ports
+length-marked_texts_from side number [] = refl
+length-marked_texts_from side number (port ∷ ports) = ap (λ n. suc n) (length-marked_texts_from side (number + 1) ports)
+
+pub next_marked_port : (side : Side) (ports : List Port) (i : ℕ) (d : Port) → i < length ports → marked_ports_text side (take (i + 1) ports) ≡ (marked_ports_text side (take i ports) ++ (if i == 0 then [] else 32 ∷ [])) ++ marked_text side (i + 1) (get_or ports i d)
+next_marked_port side ports i d within =
+    let before = take i ports in
+    let number : 1 + length before ≡ i + 1 = simp length-take (omega arith) in
+    let count : length (marked_texts_from side 1 before) ≡ i = rw length-marked_texts_from (omega arith) in
+    let texts = marked_texts_from-push side 1 before (get_or ports i d) in
+    rw (take_more ports i d within, texts, number) (rw count at (join_with_byte-push 32 (marked_texts_from side 1 before) (marked_text side (i + 1) (get_or ports i d))))

@@ -1,3 +1,6 @@
 pub mod Shape
 pub mod Token
 pub mod PortText
+pub mod PortGrammar
+pub mod Tag
+pub mod PortLaws

@@ -1,7 +1,8 @@
 -- The texts of shapes and of the ports of a node's side.
-use Rattle.std.specs.Prelude.{ℕ, ◌+◌, List, [], ◌∷◌, ◌++◌, map, codes}
+use Rattle.std.specs.Prelude.{ℕ, ◌+◌, List, [], ◌∷◌, ◌++◌, map, Option, Some, None, codes}
 use Rattle.std.specs.Fmt.{decimal}
 use Rattle.std.specs.List.{join_with_byte}
+use Rattle.port_types.specs.declared.port.Port.{Port}
 use Rattle.port_types.specs.declared.side.Side.{Side}
 use Rattle.port_types.specs.declared.side.Side.TheVariants.{Ins, Outs}
 
@@ -30,3 +31,22 @@ port_texts_from side number (shape ∷ shapes) = port_text side number shape ∷
 -- the ports of a side, by their shapes, joined by spaces
 abbrev pub ports_text : Side → List (List ℕ) → List ℕ
 ports_text side shapes = join_with_byte 32 (port_texts_from side 1 shapes)
+
+-- Ports with markers
+
+abbrev pub marker_text : Option ℕ → List ℕ
+marker_text None = []
+marker_text (Some marker) = marker ∷ []
+
+-- a port with its marker, if it has one, and its shape, as `in1?:1`
+abbrev pub marked_text : Side → ℕ → Port → List ℕ
+marked_text side number port = port_name side number ++ marker_text port.marker ++ codes ":" ++ shape_text port.shape
+
+-- the texts of the ports from this number on
+abbrev pub marked_texts_from : Side → ℕ → List Port → List (List ℕ)
+marked_texts_from side number [] = []
+marked_texts_from side number (port ∷ ports) = marked_text side number port ∷ marked_texts_from side (number + 1) ports
+
+-- the ports of a side joined by spaces
+abbrev pub marked_ports_text : Side → List Port → List ℕ
+marked_ports_text side ports = join_with_byte 32 (marked_texts_from side 1 ports)

@@ -1,4 +1,4 @@
-ghost use Rattle.std.specs.Prelude.{◌≡◌, ◌↔◌, IsSome, IfSome, IfOk};
+ghost use Rattle.std.specs.Prelude.{◌≡◌, ◌↔◌, IsSome, IfSome, IfOk, string_bytes};
 ghost use Rattle.std.specs.Str.{IsUtf8};
 
 use crate::memory::NoMemory;
@@ -33,6 +33,13 @@ impl Text {
             }
             Err(_) => None,
         }
+    }
+
+    /// The text that a string holds. Takes no memory.
+    pub fn from_string(text: String) -> Text
+        ensures { result ≡ string_bytes text }
+    {
+        Text { text }
     }
 
     /// The bytes of the text.
