@@ -18,6 +18,8 @@ pub mod AtOnce
 pub mod Skipping
 pub mod BlankStarts
 pub mod Utf8
+pub mod PrintedUtf8
+pub mod StandingTexts
 pub mod Quoted
 pub mod Slices
 pub mod Items

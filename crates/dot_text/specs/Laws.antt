@@ -9,6 +9,7 @@ use Rattle.dot_text.specs.Machine.{Begin, Whole, run}
 use Rattle.dot_text.specs.Reading.{Found, IsAnswer, reading}
 use Rattle.dot_text.specs.Stream.{Scan, Going, Over, pushes, answer, reader_at, reader_of}
 use Rattle.dot_text.specs.Printing.{DocPrints, printed}
+use Rattle.dot_text.specs.Texts.{DocTexts}
 use Rattle.dot_text.specs.Blanks.{SkipsTo, SkipFails, IsSkip, skipping}
 
 -- whatever other token begins at the byte of a token ends no later
@@ -52,6 +53,23 @@ DocumentIsUtf8 = (bytes : List ℕ) (from : ℕ) (doc : Doc) (to : ℕ) → Stan
 -- where the lines of a document stand in UTF-8, whatever comes behind, the document stands
 abbrev pub PrintedStands : Type 0
 PrintedStands = (doc : Doc) (after : List ℕ) → DocPrints doc → IsUtf8 (printed doc) → Stands (printed doc ++ after) 0 doc (length (printed doc))
+
+-- the lines of a document whose texts are UTF-8 are UTF-8
+abbrev pub PrintedIsUtf8 : Type 0
+PrintedIsUtf8 = (doc : Doc) → DocTexts IsUtf8 doc → IsUtf8 (printed doc)
+
+-- the texts of a document that stands can be quoted, and each of its nodes has a pair
+abbrev pub StandingPrints : Type 0
+StandingPrints = (bytes : List ℕ) (from : ℕ) (doc : Doc) (to : ℕ) → Stands bytes from doc to → DocPrints doc
+
+-- the texts of a document that stands are UTF-8
+abbrev pub StandingIsUtf8 : Type 0
+StandingIsUtf8 = (bytes : List ℕ) (from : ℕ) (doc : Doc) (to : ℕ) → Stands bytes from doc to → DocTexts IsUtf8 doc
+
+-- a document that stands somewhere stands where its lines stand, whatever comes behind
+abbrev pub StandingStandsPrinted : Type 0
+StandingStandsPrinted =
+    (bytes after : List ℕ) (from : ℕ) (doc : Doc) (to : ℕ) → Stands bytes from doc to → Stands (printed doc ++ after) 0 doc (length (printed doc))
 
 -- reading byte by byte finds the same
 abbrev pub StreamDecides : Type 0

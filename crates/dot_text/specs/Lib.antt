@@ -6,6 +6,7 @@ pub mod Scanner
 pub mod Machine
 pub mod Reading
 pub mod Printing
+pub mod Texts
 pub mod Stream
 pub mod Blanks
 pub mod Skip

@@ -1,4 +1,4 @@
-ghost use Rattle.dot_text.specs.Laws.{TokenIsLongest, OneDocument, OnePlace, NoPlaceInDocument, MachineGoes, MachineEnds, ReadingDecides, LooksNoFurther, DocumentIsUtf8, PrintedStands, StreamDecides, StreamGoesOn, StreamFinds, StreamFindsAtOnce, StreamFails, SkippingDecides, OneEndOfBlanks, OneUnclosed, NotBothSkips};
+ghost use Rattle.dot_text.specs.Laws.{TokenIsLongest, OneDocument, OnePlace, NoPlaceInDocument, MachineGoes, MachineEnds, ReadingDecides, LooksNoFurther, DocumentIsUtf8, PrintedStands, PrintedIsUtf8, StandingPrints, StandingIsUtf8, StandingStandsPrinted, StreamDecides, StreamGoesOn, StreamFinds, StreamFindsAtOnce, StreamFails, SkippingDecides, OneEndOfBlanks, OneUnclosed, NotBothSkips};
 
 /// A token is the longest one that begins at its byte.
 pub fn token_is_longest()
@@ -40,6 +40,18 @@ pub fn document_is_utf8()
 /// A document whose texts can be quoted, and whose nodes have pairs, stands where its lines stand.
 pub fn printed_document_stands()
     ensures { PrintedStands }
+{}
+
+/// The lines of a document whose texts are UTF-8 are UTF-8.
+pub fn printed_document_is_utf8()
+    ensures { PrintedIsUtf8 }
+{}
+
+/// A document that stands can be printed: its texts can be quoted and are UTF-8, its nodes have pairs, and it stands where its lines stand.
+pub fn standing_document_prints()
+    ensures prints { StandingPrints }
+    ensures utf8 { StandingIsUtf8 }
+    ensures stands { StandingStandsPrinted }
 {}
 
 /// Reading byte by byte finds the same.

@@ -1,10 +1,6 @@
 pub mod Orders
 pub mod EntryLists
 pub mod WireOrder
-pub mod WiresInto
-pub mod WholeText
-pub mod Pairs
-pub mod Ports
+pub mod WholeDocument
+pub mod PortsInOrder
 pub mod KeptOrder
-pub mod Escapes
-pub mod Keys

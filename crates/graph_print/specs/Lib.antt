@@ -1,3 +1,3 @@
 pub mod CanonicalText
 pub mod PrintedWires
-pub mod PrintedGraph
+pub mod DocumentParts

@@ -1,35 +1,39 @@
-//! The kept attributes of a node, in the byte order of their keys.
+//! The kept attributes of a node, in the byte order of their keys. The only error of each call is want of memory.
 
-ghost use Rattle.std.specs.Prelude.{◌≡◌, ◌≢◌, ◌++◌, codes, map, AllPairs, IfOk, OnOk, string_bytes};
-ghost use Rattle.std.specs.List.{flat_map};
+ghost use Rattle.std.specs.Prelude.{◌≡◌, ◌≢◌, ◌++◌, map, AllPairs, IfOk, OnOk};
 ghost use Rattle.std.specs.FinMap.{entries, from_entries};
 ghost use Rattle.graph_core.specs.Name.{name_cmp};
-ghost use Rattle.graph_print.specs.CanonicalText.{kept_pair};
 
-use crate::quoting::push_kept_pair;
 use port_types::{NoMemory, Text};
 use std::alloc::Global;
 use std::collections::BTreeMap;
 
-/// Appends kept attributes in the byte order of their keys, each behind a comma. After `NoMemory` a part of them may have been appended.
+/// Appends copies of kept attributes in the byte order of their keys. After `NoMemory` a part of them may have been appended.
 pub(crate) fn push_kept(
     alloc: Global,
-    text: &mut String,
+    pairs: &mut Vec<(Text, Text)>,
     kept: &[(Text, Text)],
 ) -> Result<(), NoMemory>
     requires { AllPairs (λ a b. a.0 ≢ b.0) kept.now }
-    ensures { OnOk result (string_bytes text.new ≡ string_bytes text.old
-        ++ flat_map (λ pair. codes ", " ++ kept_pair pair) (entries (from_entries {R = name_cmp} kept.now))) }
+    ensures { OnOk result (pairs.new.items ≡ pairs.old.items ++ entries (from_entries {R = name_cmp} kept.now)) }
 {
-    let pairs = kept_by_key(alloc, kept)?;
-    for pair in &pairs {
-        text.push_str(", ")?;
-        push_kept_pair(text, pair)?;
+    let kept = kept_by_key(alloc, kept)?;
+    for pair in &kept {
+        pairs.push(copy_of(alloc, pair)?)?;
     }
     Ok(())
 }
 
-/// Attributes in the byte order of their keys. The only error is want of memory.
+/// An equal pair of its own.
+fn copy_of(alloc: Global, pair: &(Text, Text)) -> Result<(Text, Text), NoMemory>
+    ensures { IfOk result (λ copy. copy ≡ pair.now) }
+{
+    let key = pair.0.copy(alloc)?;
+    let value = pair.1.copy(alloc)?;
+    Ok((key, value))
+}
+
+/// Attributes in the byte order of their keys.
 fn kept_by_key<'a>(
     alloc: Global,
     kept: &'a [(Text, Text)],

@@ -1,13 +1,15 @@
 //! The canonical text of a graph: its nodes in the byte order of their names, and then its wires.
 #![tactic(auto)]
 
+mod document;
+mod edge_entry;
 mod kept;
-mod key;
-mod node_line;
+mod kinds;
+mod node_entry;
+mod ports;
 mod printer;
-mod quoting;
 #[cfg(test)]
 mod tests;
-mod wire_line;
+mod texts;
 
 pub use printer::text_of;

@@ -23,3 +23,8 @@ pub mod PlainReading
 pub mod OnePlain
 pub mod PlainWires
 pub mod Faults
+pub mod SimpleTexts
+pub mod CanonicalPairs
+pub mod CanonicalDocument
+pub mod ReadTexts
+pub mod StrippedTexts

@@ -18,14 +18,14 @@ use Rattle.graphiti.proofs.EntryLists.{find-append}
 use Rattle.graphiti.proofs.Lookups.{name_total, name_same, name_cases}
 use Rattle.graphiti.proofs.PlainLists.{AreApart, found_first, found_behind, pairs-from_apart}
 
-same_bytes : (a b : List ℕ) → a ≡ b → bytes_eq b a ≡ true
+pub same_bytes : (a b : List ℕ) → a ≡ b → bytes_eq b a ≡ true
 same_bytes a b e = (bytes_eq-Decides b a).1 (sym e)
 
-other_bytes : (a b : List ℕ) → a ≢ b → bytes_eq b a ≡ false
+pub other_bytes : (a b : List ℕ) → a ≢ b → bytes_eq b a ≡ false
 other_bytes a b other = false_from_ne_true (bytes_eq b a) (λ e. other (sym ((bytes_eq-Decides b a).0 e)))
 
 -- what is kept under a key
-abbrev value_kept : List ℕ → List (List ℕ × List ℕ) → Option (List ℕ)
+abbrev pub value_kept : List ℕ → List (List ℕ × List ℕ) → Option (List ℕ)
 value_kept q pairs = cond (is_owned q) None (last_value q pairs)
 
 -- ---- the pairs that no kind owns, from the last to the first
@@ -34,7 +34,7 @@ none_twice : {A : Type 0} (b : Bool) → cond {A = Option A} b None None ≡ Non
 none_twice true = refl
 none_twice false = refl
 
-or_none : {A : Type 0} (o : Option A) → option_or o None ≡ o
+pub or_none : {A : Type 0} (o : Option A) → option_or o None ≡ o
 or_none None = refl
 or_none (Some x) = refl
 
@@ -69,7 +69,7 @@ one_kept q pair =
       | inr other ↦ at_another pair q other
     ]
 
-in_reverse : (q : Name) (pairs : List (List ℕ × List ℕ)) → find name_cmp q (filter (λ p. not (is_owned p.0)) (reverse pairs)) ≡ value_kept q pairs
+pub in_reverse : (q : Name) (pairs : List (List ℕ × List ℕ)) → find name_cmp q (filter (λ p. not (is_owned p.0)) (reverse pairs)) ≡ value_kept q pairs
 unfolding OneKept
 in_reverse q [] = sym (none_twice (is_owned q))
 in_reverse q (pair ∷ pairs) =
@@ -137,7 +137,7 @@ unfolding LastKept
 last_apart [] = tt
 last_apart (pair ∷ pairs) = apart_more pair (last_pairs pairs) (is_owned pair.0) (last_value pair.0 pairs) (last_kept pair.0 pairs) (last_apart pairs)
 
-not_owned : (kind : Kind) (key : List ℕ) → is_owned key ≡ false → IsOwned kind key → ⊥
+pub not_owned : (kind : Kind) (key : List ℕ) → is_owned key ≡ false → IsOwned kind key → ⊥
 not_owned kind key unowned owned =
     elim owned [
       | inl is ↦ true≢false (sym (ap is_owned is) ∙ unowned)

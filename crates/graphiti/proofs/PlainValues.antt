@@ -6,7 +6,7 @@ use Rattle.std.proofs.lemmas.Bool.{ne_eqb, eqb-false, le-leb, leb-true, and_from
 use Rattle.std.proofs.lemmas.Fmt.{decimal_digit, decimal_step}
 use Rattle.std.proofs.lemmas.List.{take_at, drop_at, take-append-drop, take_more}
 use Rattle.std.proofs.lemmas.Slice.Eq.{bytes_eq-Decides}
-use Rattle.graph_print.specs.CanonicalText.{is_digit}
+use Rattle.std.specs.Char.{is_ascii_digit}
 use Rattle.graphiti.specs.Plain.{last_value}
 use Rattle.graphiti.specs.PlainParts.{◌>>=◌, text_behind, number_of, number_at}
 
@@ -69,10 +69,10 @@ decimal_two n few =
           inr (more, decimal_step n more fits ∙ ap (λ (t : List ℕ). t ++ (48 + n % 10) ∷ []) (decimal_digit (n / 10) front))
     ]
 
-is_digit-add : (d : ℕ) → d < 10 → is_digit (48 + d) ≡ true
+is_digit-add : (d : ℕ) → d < 10 → is_ascii_digit (48 + d) ≡ true
 is_digit-add d one = and_from _ _ (le-leb 48 (48 + d) (omega arith)) (le-leb (48 + d) 57 (omega arith))
 
-is_digit-range : (d : ℕ) → is_digit d ≡ true → (48 ≤ d) × (d ≤ 57)
+is_digit-range : (d : ℕ) → is_ascii_digit d ≡ true → (48 ≤ d) × (d ≤ 57)
 is_digit-range d e = let parts = and_parts (nat_le 48 d) (nat_le d 57) e in (leb-true 48 d parts.0, leb-true d 57 parts.1)
 
 pub number_of-decimal : (n : ℕ) → n ≤ 64 → number_of (decimal n) ≡ Some n
@@ -106,15 +106,15 @@ two_digits a b low high low' high' =
 pub number_of-is : (text : List ℕ) (n : ℕ) → number_of text ≡ Some n → (n ≤ 64) × (text ≡ decimal n)
 number_of-is [] n e = absurd (no_answer n e)
 number_of-is (a ∷ []) n e =
-    let parts = tested (is_digit a) (a - 48) n e in
+    let parts = tested (is_ascii_digit a) (a - 48) n e in
     let range = is_digit-range a parts.0 in
     (omega (arith, range.0, range.1, parts.1), sym (one_digit a range.0 range.1) ∙ ap decimal parts.1)
 number_of-is (a ∷ b ∷ []) n e =
     let m = (a - 48) * 10 + (b - 48) in
-    let parts = tested (is_digit a && is_digit b && not (a == 48) && nat_le m 64) m n e in
-    let fits = and_parts (is_digit a && is_digit b && not (a == 48)) (nat_le m 64) parts.0 in
-    let some = and_parts (is_digit a && is_digit b) (not (a == 48)) fits.0 in
-    let both = and_parts (is_digit a) (is_digit b) some.0 in
+    let parts = tested (is_ascii_digit a && is_ascii_digit b && not (a == 48) && nat_le m 64) m n e in
+    let fits = and_parts (is_ascii_digit a && is_ascii_digit b && not (a == 48)) (nat_le m 64) parts.0 in
+    let some = and_parts (is_ascii_digit a && is_ascii_digit b) (not (a == 48)) fits.0 in
+    let both = and_parts (is_ascii_digit a) (is_ascii_digit b) some.0 in
     let first = is_digit-range a both.0 in
     let second = is_digit-range b both.1 in
     let other : a ≢ 48 = eqb-false a 48 (not-true (a == 48) some.1) in

@@ -7,4 +7,5 @@ pub mod Words
 pub mod Plain
 pub mod PlainParts
 pub mod Input
+pub mod ReadBack
 pub mod Answer

@@ -2,6 +2,7 @@
 use Rattle.std.specs.Prelude.{◌≡◌, ◌≢◌, ℕ, ◌+◌, ◌-◌, ◌*◌, ◌≤◌, not, ◌&&◌, ◌==◌, nat_le, nat_lt, List, [], ◌∷◌, length, take, drop, Option, Some, None, is_none, AllPairs, codes, bytes_eq, count_by, if◌then◌else◌}
 use Rattle.std.specs.List.{AllByRecursion}
 use Rattle.std.specs.Option.{option_map}
+use Rattle.std.specs.Char.{is_ascii_digit}
 use Rattle.std.specs.FinMap as map
 use Rattle.port_types.specs.declared.side.Side.TheVariants.{Ins, Outs}
 use Rattle.dot_text.specs.declared.doc.DocNode.{DocNode}
@@ -14,7 +15,7 @@ use Rattle.graph_core.specs.Node.{Body}
 use Rattle.graph_core.specs.NamedGraph.{NamedGraph, IsNamed, IsWire, CanWire}
 use Rattle.graphiti.specs.declared.plain.FieldKind.{FieldKind}
 use Rattle.graphiti.specs.declared.plain.FieldKind.TheVariants.{Entry, Exit, Buffer, Fork}
-use Rattle.graph_print.specs.CanonicalText.{is_digit, kind_word}
+use Rattle.graph_print.specs.CanonicalText.{kind_word}
 use Rattle.graphiti.specs.Plain.{last_value, is_owned, side_value, ReadsNode, ReadsEdge, ReadsNodes, ReadsEdges}
 
 infixl 10 ◌>>=◌
@@ -36,8 +37,8 @@ text_behind literal text = if bytes_eq (take (length literal) text) literal then
 -- a number from 0 to 64, in decimal
 abbrev pub number_of : List ℕ → Option ℕ
 number_of [] = None
-number_of (a ∷ []) = if is_digit a then Some (a - 48) else None
-number_of (a ∷ b ∷ []) = if is_digit a && is_digit b && not (a == 48) && nat_le ((a - 48) * 10 + (b - 48)) 64 then Some ((a - 48) * 10 + (b - 48)) else None
+number_of (a ∷ []) = if is_ascii_digit a then Some (a - 48) else None
+number_of (a ∷ b ∷ []) = if is_ascii_digit a && is_ascii_digit b && not (a == 48) && nat_le ((a - 48) * 10 + (b - 48)) 64 then Some ((a - 48) * 10 + (b - 48)) else None
 number_of (a ∷ b ∷ c ∷ more) = None
 
 -- the number behind these bytes in the value of a key

@@ -1,9 +1,13 @@
 //! Laws of the definitions that the contract of `run` speaks of.
 ghost use Rattle.graphiti.specs.Plain.{PlainIsOneGraph};
+ghost use Rattle.graphiti.specs.ReadBack.{TextReadsBack, ReadCanBeRead, StrippedCanBeRead, PrintReadsBack, InputIsOneGraph, PrintOfPrint};
 ghost use Rattle.graphiti.specs.Stripped.{HasStripped, IsOneStripped};
 ghost use Rattle.graphiti.specs.Strips.{TurnsEnd, TurnsStrip};
 ghost use Rattle.graphiti.specs.Behaviour.{StrippedDrains, StrippedIsRefined, StrippedRefines, StrippedTyped};
 
+use dot_text::{
+    one_document, printed_document_is_utf8, printed_document_stands, standing_document_prints,
+};
 use module_sem::{
     buffer_keeps_drains, graph_buffer_shows_nothing, graph_typed_as_circuit, refines_in_steps,
     refines_itself,
@@ -13,6 +17,40 @@ use module_sem::{
 pub fn plain_is_one_graph()
     ensures { PlainIsOneGraph }
 {}
+
+/// The canonical text of a graph within the limits of reading is an input of that graph.
+pub fn text_reads_back()
+    ensures { TextReadsBack }
+{
+    printed_document_is_utf8();
+    printed_document_stands();
+}
+
+/// A graph that was read is within these limits: its kept texts can be quoted.
+pub fn read_texts_can_be_quoted()
+    ensures { ReadCanBeRead }
+{
+    standing_document_prints();
+}
+
+/// The stripped graph of a graph within these limits is within them.
+pub fn stripped_can_be_read()
+    ensures { StrippedCanBeRead }
+{
+    stripped_refines();
+}
+
+/// What is printed of a graph that was read is an input of that graph and of no other, so printing it again gives the same text.
+pub fn print_of_print()
+    ensures back { PrintReadsBack }
+    ensures one { InputIsOneGraph }
+    ensures same { PrintOfPrint }
+{
+    one_document();
+    plain_is_one_graph();
+    text_reads_back();
+    read_texts_can_be_quoted();
+}
 
 /// A typed graph has one stripped graph.
 pub fn one_stripped_graph()

@@ -1,0 +1,10 @@
+use Rattle.graph_print.proofs.WholeDocument.{statements_of_nodes, statements_of_wires}
+use Rattle.graph_print.proofs.document.document_of.Goals as goal
+
+pub returns : goal.returns
+returns c =
+    let g = c.args.g.now in
+    let ids = c.in_ok-ids.ids.items in
+    let nodes = statements_of_nodes g ids c.in_ok-ids.ensures.order in
+    let edges = statements_of_wires g ids c.in_ok-ids.ensures.order c.by_name.ensures.wires in
+    cc (nodes, edges, c.in_ok-nodes.ensures, c.in_ok-edges.ensures)

@@ -1,0 +1,39 @@
+//! The statement of a node. The only error of each call is want of memory.
+
+ghost use Rattle.std.specs.Prelude.{◌≡◌, IfOk};
+ghost use Rattle.graph_core.specs.Node.{NodeOk, body_of};
+ghost use Rattle.graph_core.specs.GraphValue.{named};
+ghost use Rattle.graph_print.specs.CanonicalText.{pairs_of, node_entry};
+
+use crate::kept::push_kept;
+use crate::kinds::kind_word;
+use crate::ports::push_side;
+use crate::texts::{push_pair, text_from};
+use dot_text::DocNode;
+use graph_core::Node;
+use port_types::{Items, NoMemory, Side, Text};
+use std::alloc::Global;
+
+/// The statement of a node: its name and its pairs.
+pub(crate) fn node_entry(alloc: Global, node: &Node) -> Result<DocNode, NoMemory>
+    requires { NodeOk node.now }
+    ensures { IfOk result (λ entry. entry ≡ node_entry (named node.now)) }
+{
+    let name = node.name.copy(alloc)?;
+    let pairs = pairs_of(alloc, node)?;
+    Ok(DocNode { name, pairs })
+}
+
+/// The pairs of a node: its type, its ports, and what is kept. No kind owns more yet.
+fn pairs_of(alloc: Global, node: &Node) -> Result<Items<(Text, Text)>, NoMemory>
+    requires { NodeOk node.now }
+    ensures { IfOk result (λ pairs. pairs ≡ pairs_of (body_of node.now)) }
+{
+    let mut pairs = Vec::new(alloc);
+    let word = text_from(alloc, kind_word(&node.kind))?;
+    push_pair(alloc, &mut pairs, "type", word)?;
+    push_side(alloc, &mut pairs, &node.kind, Side::Ins)?;
+    push_side(alloc, &mut pairs, &node.kind, Side::Outs)?;
+    push_kept(alloc, &mut pairs, node.kept.as_slice())?;
+    Ok(Items::new(pairs))
+}

@@ -1,0 +1,157 @@
+-- The pairs of a printed node are those of its kind, and those that it keeps.
+use Rattle.std.proofs.Common.{◌≡◌, ◌≢◌, ◌⊎◌, inl, inr, ℕ, Bool, true, false, cond, ◌||◌, T, List, [], ◌∷◌, ◌++◌, length, Option, Some, None, Ordering, codes, refl, sym, ap, subst, ◌∙◌}
+use Rattle.std.specs.Prelude.{bytes_eq, AllPairs}
+use Rattle.std.specs.Cmp.{IsTotalOrder}
+use Rattle.std.specs.Option.{option_or}
+use Rattle.std.specs.FinMap as map
+use Rattle.std.specs.FinMap.{FinMap, IsAntisymmetric}
+use Rattle.std.specs.FinMap.Entries.{find, is_sorted}
+use Rattle.std.proofs.lemmas.Bool.{true≢false}
+use Rattle.std.proofs.lemmas.Slice.Eq.{bytes_eq-Decides}
+use Rattle.port_types.specs.declared.side.Side.{Side}
+use Rattle.port_types.specs.declared.side.Side.TheVariants.{Ins, Outs}
+use Rattle.port_types.specs.PortText.{side_word, ports_text}
+use Rattle.dot_text.specs.Grammar.{Pair}
+use Rattle.graph_core.specs.declared.kind.Kind.{Kind}
+use Rattle.graph_core.specs.declared.kind.Kind.TheVariants.{Entry, Exit, Buffer, Fork}
+use Rattle.graph_core.specs.Name.{Name, name_cmp}
+use Rattle.graph_core.specs.Kind.{Shape, ins, outs, KindOk}
+use Rattle.graph_core.specs.Node.{Body, IsOwned}
+use Rattle.graph_print.specs.CanonicalText.{kind_word, own_pairs, side_pairs, pairs_of, node_entry}
+use Rattle.graphiti.specs.Plain.{last_value, is_owned, kept_of, side_value, HasOneField, ReadsNode}
+use Rattle.graphiti.proofs.EntryLists as lists
+use Rattle.graphiti.proofs.Lookups.{name_total, name_same, name_cases}
+use Rattle.graphiti.proofs.PlainLists.{AreApart, found_first, found_behind}
+use Rattle.graphiti.proofs.PlainKept.{same_bytes, other_bytes, value_kept, in_reverse, or_none}
+
+-- ---- the entries of a map
+
+pub apart-from_sorted : {K X : Type 0} (R : K → K → Ordering) (es : List (K × X)) → T (is_sorted R es) → AreApart R es
+apart-from_sorted R [] sorted = tt
+apart-from_sorted R (e ∷ es) sorted = (lists.find_below R e.0 es (lists.first _ _ sorted), apart-from_sorted R es (lists.second _ _ sorted))
+
+pub from_entries-entries : {K X : Type 0} {R : K → K → Ordering} → IsTotalOrder R → IsAntisymmetric R → (m : FinMap R X) → m ≡ map.from_entries (map.entries m)
+from_entries-entries o same m = map.same_map o same m (map.from_entries (map.entries m)) (λ q. map.get-entries m q ∙ sym (map.get-from_entries o (map.entries m) q))
+
+-- ---- values of keys
+
+last_value-append : (key : List ℕ) (xs ys : List Pair) → last_value key (xs ++ ys) ≡ option_or (last_value key ys) (last_value key xs)
+last_value-append key [] ys = sym (or_none (last_value key ys))
+last_value-append key (x ∷ xs) ys = ap (λ found. option_or found (cond (bytes_eq x.0 key) (Some x.1) None)) (last_value-append key xs ys) ∙ or_assoc (last_value key ys) (last_value key xs) (cond (bytes_eq x.0 key) (Some x.1) None)
+  where
+    or_assoc : (o p q : Option (List ℕ)) → option_or (option_or o p) q ≡ option_or o (option_or p q)
+    or_assoc None p q = refl
+    or_assoc (Some x) p q = refl
+
+-- where no key stands twice, the last pair of a key is the first
+last_value-apart : (key : List ℕ) (pairs : List Pair) → AreApart name_cmp pairs → last_value key pairs ≡ find name_cmp key pairs
+last_value-apart key [] apart = refl
+last_value-apart key (pair ∷ pairs) apart =
+    elim (name_cases key pair.0) [
+      | inl same ↦
+          let later : last_value key pairs ≡ None = last_value-apart key pairs apart.1 ∙ ap (λ (k : Name). find name_cmp k pairs) same ∙ apart.0 in
+          (λ i. option_or (later i) (cond (same_bytes key pair.0 same i) (Some pair.1) None)) ∙ sym (found_first name_total name_same pair pairs key same)
+      | inr other ↦
+          ap (λ (t : Bool). option_or (last_value key pairs) (cond t (Some pair.1) None)) (other_bytes key pair.0 other)
+          ∙ or_none (last_value key pairs) ∙ last_value-apart key pairs apart.1 ∙ sym (found_behind name_total name_same pair pairs key other)
+    ]
+
+side_last : (side : Side) (shapes : List Shape) → last_value (side_word side) (side_pairs side shapes) ≡ side_value side shapes
+side_last Ins [] = refl
+side_last Ins (shape ∷ shapes) = refl
+side_last Outs [] = refl
+side_last Outs (shape ∷ shapes) = refl
+
+side_other : (key : List ℕ) (side : Side) (shapes : List Shape) → key ≢ side_word side → last_value key (side_pairs side shapes) ≡ None
+side_other key side [] other = refl
+side_other key side (shape ∷ shapes) other = ap (λ (t : Bool). cond t (Some (ports_text side (shape ∷ shapes))) None) (other_bytes key (side_word side) other)
+
+pub no_own : (kind : Kind) → own_pairs kind ≡ []
+no_own (Entry shape) = refl
+no_own (Exit shape) = refl
+no_own (Buffer shape) = refl
+no_own (Fork shape count) = refl
+
+owned_by : (a b c : Bool) → (a || b || c) ≡ true → (a ≡ true) ⊎ ((b ≡ true) ⊎ (c ≡ true))
+owned_by true b c e = inl refl
+owned_by false true c e = inr (inl refl)
+owned_by false false c e = inr (inr e)
+
+module _ (body : Body) where
+  abbrev kept_pairs : List Pair
+  kept_pairs = map.entries body.kept
+
+  abbrev first_pair : Pair
+  first_pair = (codes "type", kind_word body.kind)
+
+  abbrev in_pairs : List Pair
+  in_pairs = side_pairs Ins (ins body.kind)
+
+  abbrev out_pairs : List Pair
+  out_pairs = side_pairs Outs (outs body.kind)
+
+  -- part by part, from the last
+  in_parts : (key : List ℕ) → last_value key (pairs_of body) ≡ option_or (last_value key kept_pairs) (option_or (last_value key out_pairs) (option_or (last_value key in_pairs) (last_value key (first_pair ∷ []))))
+  in_parts key =
+      last_value-append key ((((first_pair ∷ in_pairs) ++ out_pairs) ++ own_pairs body.kind)) kept_pairs
+      ∙ ap (λ (own : List Pair). option_or (last_value key kept_pairs) (last_value key (((first_pair ∷ in_pairs) ++ out_pairs) ++ own))) (no_own body.kind)
+      ∙ ap (option_or (last_value key kept_pairs)) (last_value-append key ((first_pair ∷ in_pairs) ++ out_pairs) [] ∙ last_value-append key (first_pair ∷ in_pairs) out_pairs ∙ ap (option_or (last_value key out_pairs)) (last_value-append key (first_pair ∷ []) in_pairs))
+
+  module _ (unowned : (key value : List ℕ) → map.get body.kept key ≡ Some value → ¬ (IsOwned body.kind key)) where
+    none_if : (key : List ℕ) → IsOwned body.kind key → (found : Option (List ℕ)) → map.get body.kept key ≡ found → found ≡ None
+    none_if key owned None is = refl
+    none_if key owned (Some value) is = absurd (unowned key value is owned)
+
+    kept_last : (key : List ℕ) → last_value key kept_pairs ≡ map.get body.kept key
+    kept_last key = last_value-apart key kept_pairs (apart-from_sorted name_cmp kept_pairs (map.entries_sorted body.kept)) ∙ sym (map.get-entries body.kept key)
+
+    owned_none : (key : List ℕ) → IsOwned body.kind key → last_value key kept_pairs ≡ None
+    owned_none key owned = kept_last key ∙ none_if key owned (map.get body.kept key) refl
+
+    says_type : last_value (codes "type") (pairs_of body) ≡ Some (kind_word body.kind)
+    says_type =
+        in_parts (codes "type")
+        ∙ (λ i. option_or (owned_none (codes "type") (inl refl) i) (option_or (side_other (codes "type") Outs (outs body.kind) (λ e. cc) i) (option_or (side_other (codes "type") Ins (ins body.kind) (λ e. cc) i) (Some (kind_word body.kind)))))
+
+    says_ins : last_value (codes "in") (pairs_of body) ≡ side_value Ins (ins body.kind)
+    says_ins =
+        in_parts (codes "in")
+        ∙ (λ i. option_or (owned_none (codes "in") (inr (inl refl)) i) (option_or (side_other (codes "in") Outs (outs body.kind) (λ e. cc) i) (option_or (side_last Ins (ins body.kind) i) None)))
+        ∙ or_none (side_value Ins (ins body.kind))
+
+    says_outs : last_value (codes "out") (pairs_of body) ≡ side_value Outs (outs body.kind)
+    says_outs =
+        in_parts (codes "out")
+        ∙ (λ i. option_or (owned_none (codes "out") (inr (inr refl)) i) (option_or (side_last Outs (outs body.kind) i) (option_or (side_other (codes "out") Ins (ins body.kind) (λ e. cc) i) None)))
+        ∙ or_none (side_value Outs (outs body.kind))
+
+    -- a key that no kind owns
+    module _ (key : List ℕ) (free : is_owned key ≡ false) where
+      is_no : (word : List ℕ) → is_owned word ≡ true → key ≢ word
+      is_no word owned is = true≢false (sym owned ∙ ap is_owned (sym is) ∙ free)
+
+      other_last : last_value key (pairs_of body) ≡ map.get body.kept key
+      other_last =
+          in_parts key
+          ∙ (λ i. option_or (kept_last key i) (option_or (side_other key Outs (outs body.kind) (is_no (codes "out") refl) i) (option_or (side_other key Ins (ins body.kind) (is_no (codes "in") refl) i) (cond (other_bytes key (codes "type") (is_no (codes "type") refl) i) (Some (kind_word body.kind)) None))))
+          ∙ or_none (map.get body.kept key)
+
+    owned_key : (key : List ℕ) → is_owned key ≡ true → IsOwned body.kind key
+    owned_key key is =
+        elim (owned_by (bytes_eq key (codes "type")) (bytes_eq key (codes "in")) (bytes_eq key (codes "out")) is) [
+          | inl e ↦ inl ((bytes_eq-Decides key (codes "type")).0 e)
+          | inr (inl e) ↦ inr (inl ((bytes_eq-Decides key (codes "in")).0 e))
+          | inr (inr e) ↦ inr (inr ((bytes_eq-Decides key (codes "out")).0 e))
+        ]
+
+    kept_at : (key : List ℕ) (owned : Bool) → is_owned key ≡ owned → map.get body.kept key ≡ cond owned None (last_value key (pairs_of body))
+    kept_at key true is = none_if key (owned_key key is) (map.get body.kept key) refl
+    kept_at key false is = sym (other_last key is)
+
+    keeps : body.kept ≡ kept_of (pairs_of body)
+    keeps =
+        map.same_map name_total name_same body.kept (kept_of (pairs_of body))
+        (λ q. kept_at q (is_owned q) refl ∙ sym (in_reverse q (pairs_of body)) ∙ sym (map.get-from_entries name_total _ q))
+
+    pub reads_canonical : (name : Name) → KindOk body.kind → HasOneField body.kind → ReadsNode (node_entry (name, body)) body
+    reads_canonical name right one = record { type = says_type; inputs = says_ins; outputs = says_outs; kind = right; one_field = one; kept = keeps }

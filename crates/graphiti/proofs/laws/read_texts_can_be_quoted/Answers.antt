@@ -1,0 +1,5 @@
+use Rattle.graphiti.proofs.ReadTexts.{read_can_be_read}
+use Rattle.graphiti.proofs.laws.read_texts_can_be_quoted.Goals as goal
+
+pub returns : goal.returns
+returns c = read_can_be_read c.standing_document_prints.ensures.prints c.standing_document_prints.ensures.utf8

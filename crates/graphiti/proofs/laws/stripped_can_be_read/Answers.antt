@@ -1,0 +1,5 @@
+use Rattle.graphiti.proofs.StrippedTexts.{stripped_can_be_read}
+use Rattle.graphiti.proofs.laws.stripped_can_be_read.Goals as goal
+
+pub returns : goal.returns
+returns c = stripped_can_be_read c.stripped_refines.ensures.typed

@@ -1,0 +1,5 @@
+use Rattle.graphiti.proofs.CanonicalDocument.{text_reads_back}
+use Rattle.graphiti.proofs.laws.text_reads_back.Goals as goal
+
+pub returns : goal.returns
+returns c = text_reads_back c.printed_document_stands.ensures c.printed_document_is_utf8.ensures
