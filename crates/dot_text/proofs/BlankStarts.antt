@@ -10,7 +10,7 @@ use Rattle.dot_text.specs.declared.blanks.Skip.{Skip}
 use Rattle.dot_text.specs.declared.blanks.Skip.TheVariants.{Unclosed, Nothing}
 use Rattle.dot_text.specs.Blanks as blanks
 use Rattle.dot_text.specs.Blanks.{BlankAt, FirstByte, FirstByte.ended, FirstByte.byte}
-use Rattle.dot_text.specs.Skip.{IsSkip, BeginsBlank, BeginsBlock, len_from, block_len_of}
+use Rattle.dot_text.specs.Skip.{BeginsAs, BeginsBlank, BeginsBlock, len_from, block_len_of}
 use Rattle.dot_text.proofs.Reading.{skipped_some, behind_at}
 use Rattle.dot_text.proofs.Scanned.{cut_of, skip_found}
 use Rattle.dot_text.proofs.Sound.{Sound, front_sound}
@@ -105,10 +105,10 @@ none_here bytes p none q a = none (length a.text) (record { text = a.text; rest 
 pub place_after : (bytes : List ℕ) (p n : ℕ) → p ≤ length bytes → BeginsBlank (begins_line bytes p) (drop p bytes) n → (p < p + n) × (p + n ≤ length bytes)
 place_after bytes p n h a = (omega (arith, skipped_some a.skipped, a.count), omega (arith, behind_at bytes a.text a.rest p h a.is, a.count))
 
-pub unclosed_here : (bytes : List ℕ) (p : ℕ) → IsSkip (begins_line bytes p) (drop p bytes) Unclosed → blanks.Unclosed bytes p
+pub unclosed_here : (bytes : List ℕ) (p : ℕ) → BeginsAs (begins_line bytes p) (drop p bytes) Unclosed → blanks.Unclosed bytes p
 unclosed_here bytes p s = record { rest = s.0.rest; is = s.0.is; none = none_here bytes p s.1 }
 
-pub first_here : (bytes : List ℕ) (p : ℕ) → p ≤ length bytes → IsSkip (begins_line bytes p) (drop p bytes) Nothing → FirstByte bytes p
+pub first_here : (bytes : List ℕ) (p : ℕ) → p ≤ length bytes → BeginsAs (begins_line bytes p) (drop p bytes) Nothing → FirstByte bytes p
 first_here bytes p h s =
     elim (eqb_tells p (length bytes)) [
       | inl x ↦ ended x.1
@@ -116,5 +116,5 @@ first_here bytes p h s =
     ]
 
 -- what the code knows of the bytes from a place on
-pub at_place : (bytes : List ℕ) (p : ℕ) (line : Bool) (s : Skip) → line ≡ begins_line bytes p → IsSkip line (take (length bytes - p) (drop p bytes)) s → IsSkip (begins_line bytes p) (drop p bytes) s
-at_place bytes p line s l h = subst (λ z. IsSkip z (drop p bytes) s) l (subst (λ z. IsSkip line z s) (tail bytes p) h)
+pub at_place : (bytes : List ℕ) (p : ℕ) (line : Bool) (s : Skip) → line ≡ begins_line bytes p → BeginsAs line (take (length bytes - p) (drop p bytes)) s → BeginsAs (begins_line bytes p) (drop p bytes) s
+at_place bytes p line s l h = subst (λ z. BeginsAs z (drop p bytes) s) l (subst (λ z. BeginsAs line z s) (tail bytes p) h)

@@ -22,5 +22,7 @@ pub mod PrintedUtf8
 pub mod StandingTexts
 pub mod Quoted
 pub mod Slices
-pub mod Items
-pub mod Pushes
+pub mod Prefixes
+pub mod Staying
+pub mod Fronts
+pub mod Answered

@@ -12,6 +12,7 @@ use Rattle.dot_text.specs.Grammar.{Pair}
 use Rattle.dot_text.specs.Machine.{Owner, OfNode, OfEdge, OfDefault, State, Begin, Headed, Named, Ready, Ended, State.Word as AtWord, Pointed, Setting, Bare, Listed, Inside, Keyed, Valued, Paired, Whole, kept_of, ready, ended, listed, inside, step}
 use Rattle.dot_text.specs.Reading.{Found, IsAnswer, Turn, Fails, Goes, Finds, behind_token}
 use Rattle.dot_text.specs.Stream.{Mode, InName, InNumber, Minus, InQuotes, Slash, InLine, InBlock, Item, Blank, Word, Start, More, With, Bad, Taken, Now, Before, with_mark, starts, number_taken, taken, last_item, Scan, Between, Within, Step, Going, Over, front_with, item_turn, after_turn, begin, again, take_in, push, pushes, last_turn, finish_item, answer, reader_of}
+use Rattle.dot_text.specs.Rests.{onto, number_rest, quoted_rest, block_rest, slash_rest, minus_rest, rest_front}
 use Rattle.dot_text.proofs.Tests.{Both, both, or_first, or_second, one_of}
 use Rattle.dot_text.proofs.Sound.{Sound, front_sound}
 use Rattle.dot_text.proofs.Reading.{Upto, Says, turn_says, start_upto, past_text}
@@ -19,53 +20,17 @@ use Rattle.std.specs.Char.{is_ascii_digit, is_ascii_alphabetic}
 use Rattle.std.proofs.lemmas.Bool.Decides.{nat_tests}
 use Rattle.dot_text.proofs.Scanned.{cut_of}
 
--- the text before what is cut
-abbrev onto : List ℕ → Cut → Cut
-onto text c = record { text = text ++ c.text; rest = c.rest }
-
-abbrev number_rest : List ℕ → Cut → Front
-number_rest text c = if is_numeral (text ++ c.text) then Gives (Id (text ++ c.text)) (onto text c) else Faulty
-
-abbrev quoted_rest : List ℕ → List ℕ → Option Quoted → Front
-quoted_rest text v None = Faulty
-quoted_rest text v (Some q) = Gives (Id (v ++ q.value)) (onto text q.cut)
-
-abbrev block_rest : List ℕ → Option Cut → Front
-block_rest text None = Faulty
-block_rest text (Some c) = Skips (onto text c)
-
-abbrev slash_rest : List ℕ → List ℕ → Front
-slash_rest text [] = Faulty
-slash_rest text (b ∷ bs) =
-    if b == 47 then Skips (onto text (before b (run_of is_in_line bs)))
-    else (if b == 42 then block_rest (text ++ b ∷ []) (block_of false bs) else Faulty)
-
-abbrev minus_rest : List ℕ → List ℕ → Front
-minus_rest text [] = Faulty
-minus_rest text (b ∷ bs) =
-    if b == 62 then Gives Arrow (record { text = text ++ b ∷ []; rest = bs }) else number_rest text (run_of is_by_numeral (b ∷ bs))
-
--- what stands at the front of an item whose first bytes have been read
-abbrev rest_front : Mode → List ℕ → List ℕ → Front
-rest_front InName text more = gives_name (onto text (run_of is_in_name more))
-rest_front InNumber text more = number_rest text (run_of is_by_numeral more)
-rest_front Minus text more = minus_rest text more
-rest_front (InQuotes passed v) text more = quoted_rest text v (quoted_of passed more)
-rest_front Slash text more = slash_rest text more
-rest_front InLine text more = Skips (onto text (run_of is_in_line more))
-rest_front (InBlock star) text more = block_rest text (block_of star more)
-
-abbrev ItemSo : Front → List ℕ → Option Item → Type 0
+abbrev pub ItemSo : Front → List ℕ → Option Item → Type 0
 ItemSo f text None = f ≡ Faulty
 ItemSo f text (Some i) = f ≡ front_with i (cut_of text [])
 
 -- how one byte leads on
-abbrev StartsSo : Front → List ℕ → ℕ → List ℕ → Start → Type 0
+abbrev pub StartsSo : Front → List ℕ → ℕ → List ℕ → Start → Type 0
 StartsSo f text b bs (More m) = f ≡ rest_front m (text ++ b ∷ []) bs
 StartsSo f text b bs (With i) = f ≡ front_with i (cut_of (text ++ b ∷ []) bs)
 StartsSo f text b bs Bad = f ≡ Faulty
 
-abbrev TakenSo : Front → List ℕ → ℕ → List ℕ → Taken → Type 0
+abbrev pub TakenSo : Front → List ℕ → ℕ → List ℕ → Taken → Type 0
 TakenSo f text b bs (Now x) = StartsSo f text b bs x
 TakenSo f text b bs (Before i) = f ≡ front_with i (cut_of text (b ∷ bs))
 
@@ -97,7 +62,7 @@ block_more : (text : List ℕ) (b : ℕ) (o : Option Cut) → block_rest text (b
 block_more text b None = refl
 block_more text b (Some c) = ap Skips (onto_cut text b c)
 
-taken_so : (m : Mode) (text : List ℕ) (b : ℕ) (bs : List ℕ) → TakenSo (rest_front m text (b ∷ bs)) text b bs (taken m text b)
+pub taken_so : (m : Mode) (text : List ℕ) (b : ℕ) (bs : List ℕ) → TakenSo (rest_front m text (b ∷ bs)) text b bs (taken m text b)
 taken_so InName text b bs =
     cond_both (is_in_name b) _ _ (λ z. TakenSo (rest_front InName text (b ∷ bs)) text b bs z)
     (λ h. ap gives_name (run_more is_in_name text b bs h)) (λ h. ap gives_name (run_ends is_in_name text b bs h))
@@ -179,7 +144,7 @@ number_same b bs h =
     ∙ ap (λ x. if x then Gives (Id (b ∷ (run_of is_by_numeral bs).text)) (before b (run_of is_by_numeral bs)) else Faulty)
     (sym (cond-false (b == 45) (is_unsigned false (run_of is_by_numeral bs).text) (is_unsigned false (b ∷ (run_of is_by_numeral bs).text)) (number_no_minus b h)))
 
-starts_so : (line : Bool) (b : ℕ) (bs : List ℕ) → StartsSo (front line (b ∷ bs)) [] b bs (starts line b)
+pub starts_so : (line : Bool) (b : ℕ) (bs : List ℕ) → StartsSo (front line (b ∷ bs)) [] b bs (starts line b)
 starts_so line b bs =
     let R : Front → Start → Type 0 = λ f x. StartsSo f [] b bs x in
     cond_two R (begins_name b) _ _ _ _ (λ h. ap gives_name (cond-true (is_in_name b) _ _ (or_first (begins_name b) _ h))) (λ n.
@@ -192,7 +157,7 @@ starts_so line b bs =
     (λ h. let two : Both (b == 35) line = both (b == 35) line h in ap (λ z. Skips (before z (run_of is_in_line bs))) (sym (eqb-true b 35 two.first)))
     (λ n. mark_same b bs (mark_token b))))))))
 
-last_so : (m : Mode) (text : List ℕ) → ItemSo (rest_front m text []) text (last_item m text)
+pub last_so : (m : Mode) (text : List ℕ) → ItemSo (rest_front m text []) text (last_item m text)
 last_so InName text = ap (λ z. gives_name (cut_of z [])) (append-nil text)
 last_so InNumber text =
     cond_both (is_numeral text) _ _ (λ z. ItemSo (rest_front InNumber text []) text z)
@@ -206,7 +171,7 @@ last_so InLine text = ap (λ z. Skips (cut_of z [])) (append-nil text)
 last_so (InBlock star) text = refl
 
 -- what an item's turn leaves
-After : List ℕ → ℕ → ℕ → Turn → Type 0
+unfoldable pub After : List ℕ → ℕ → ℕ → Turn → Type 0
 After bytes from q (Fails x) = Place bytes from x
 After bytes from q (Goes x z) = Upto bytes from x z × (x ≡ q)
 After bytes from q (Finds f) = Stands bytes from f.doc f.to
@@ -232,7 +197,7 @@ combine bytes from p q (Goes x z) h g = (h.0, g)
 combine bytes from p q (Finds f) h g = h
 
 -- the item is the one at p
-item_after : {bytes : List ℕ} {from p : ℕ} {s : State} (u : Upto bytes from p s) (i : Item) (text rest : List ℕ) → front_at bytes p ≡ front_with i (cut_of text rest) → After bytes from (p + length text) (item_turn p s i text)
+pub item_after : {bytes : List ℕ} {from p : ℕ} {s : State} (u : Upto bytes from p s) (i : Item) (text rest : List ℕ) → front_at bytes p ≡ front_with i (cut_of text rest) → After bytes from (p + length text) (item_turn p s i text)
 item_after {bytes = bytes} {from = from} {p = p} {s = s} u Blank text rest e =
     combine bytes from p (p + length text) (item_turn p s Blank text)
     (turn_says u (Skips (cut_of text rest)) e (subst (λ f. Sound (begins_line bytes p) (drop p bytes) f) e (front_sound (begins_line bytes p) (drop p bytes)))) (item_goes p s Blank text)
@@ -240,11 +205,11 @@ item_after {bytes = bytes} {from = from} {p = p} {s = s} u (Word t) text rest e 
     combine bytes from p (p + length text) (item_turn p s (Word t) text)
     (turn_says u (Gives t (cut_of text rest)) e (subst (λ f. Sound (begins_line bytes p) (drop p bytes) f) e (front_sound (begins_line bytes p) (drop p bytes)))) (item_goes p s (Word t) text)
 
-fails_here : {bytes : List ℕ} {from p : ℕ} {s : State} (u : Upto bytes from p s) → front_at bytes p ≡ Faulty → Place bytes from p
+pub fails_here : {bytes : List ℕ} {from p : ℕ} {s : State} (u : Upto bytes from p s) → front_at bytes p ≡ Faulty → Place bytes from p
 unfolding Says
 fails_here {bytes = bytes} {p = p} u e = turn_says u Faulty e tt
 
-ends_here : {bytes : List ℕ} {from p : ℕ} {s : State} (u : Upto bytes from p s) → drop p bytes ≡ [] → Place bytes from p
+pub ends_here : {bytes : List ℕ} {from p : ℕ} {s : State} (u : Upto bytes from p s) → drop p bytes ≡ [] → Place bytes from p
 unfolding Says
 ends_here {bytes = bytes} {p = p} u e = turn_says u AtEnd (ap (front (begins_line bytes p)) e) e
 

@@ -14,4 +14,6 @@ pub mod Laws
 pub mod States
 pub mod Keywords
 pub mod Scans
+pub mod Rests
+pub mod Runs
 pub mod Readers

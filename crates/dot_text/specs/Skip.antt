@@ -19,10 +19,10 @@ pub record BeginsBlock (bs : List ℕ) : Type 0 where
   pub is : bs ≡ 47 ∷ 42 ∷ rest
 
 -- they begin with a blank or a comment, with a block comment that is not closed, or with neither
-abbrev pub IsSkip : Bool → List ℕ → Skip → Type 0
-IsSkip line bs (Bytes n) = BeginsBlank line bs n
-IsSkip line bs Unclosed = BeginsBlock bs × ((n : ℕ) → BeginsBlank line bs n → ⊥)
-IsSkip line bs Nothing = (BeginsBlock bs → ⊥) × ((n : ℕ) → BeginsBlank line bs n → ⊥)
+abbrev pub BeginsAs : Bool → List ℕ → Skip → Type 0
+BeginsAs line bs (Bytes n) = BeginsBlank line bs n
+BeginsAs line bs Unclosed = BeginsBlock bs × ((n : ℕ) → BeginsBlank line bs n → ⊥)
+BeginsAs line bs Nothing = (BeginsBlock bs → ⊥) × ((n : ℕ) → BeginsBlank line bs n → ⊥)
 
 -- how many bytes there are with those of the cut, if it is there
 abbrev pub len_from : ℕ → Option Cut → Option ℕ

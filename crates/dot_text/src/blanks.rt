@@ -1,8 +1,10 @@
 ghost use Rattle.std.specs.Prelude.{◌≡◌, ◌≤◌, length, IfSome, MatchResult};
 ghost use Rattle.std.specs.List.{prefix_len};
-ghost use Rattle.dot_text.specs.Lexical.{is_blank, is_in_line, begins_line};
+ghost use Rattle.dot_text.specs.Lexical.{is_in_line};
 ghost use Rattle.dot_text.specs.Blanks.{SkipsTo, SkipFails};
-ghost use Rattle.dot_text.specs.Skip.{IsSkip, block_len_of};
+ghost use Rattle.dot_text.specs.Skip.{BeginsAs, block_len_of};
+
+use crate::lexical::{begins_line, is_blank};
 
 /// What bytes begin with, as far as blanks and comments go.
 enum Skip {
@@ -30,17 +32,9 @@ pub fn skip_blank(bytes: &[u8], from: usize) -> Result<usize, usize>
     }
 }
 
-/// Whether a line begins at the place: at byte 0 and behind each LF.
-fn begins_line(bytes: &[u8], place: usize) -> bool
-    requires { place ≤ length bytes.now }
-    ensures { result ≡ begins_line bytes.now place }
-{
-    place == 0 || bytes[place - 1] == b'\n'
-}
-
 /// What the bytes begin with, where `line` says that a line begins at them.
 fn skip_of(bytes: &[u8], line: bool) -> Skip
-    ensures { IsSkip line bytes.now result }
+    ensures { BeginsAs line bytes.now result }
 {
     match bytes.first() {
         Some(byte) if is_blank(*byte) => Skip::Bytes(1),
@@ -52,13 +46,6 @@ fn skip_of(bytes: &[u8], line: bool) -> Skip
         },
         _ => Skip::Nothing,
     }
-}
-
-/// Whether the byte is a space, a tab, a CR or an LF.
-fn is_blank(byte: u8) -> bool
-    ensures { result ≡ is_blank byte }
-{
-    matches!(byte, b' ' | b'\t' | b'\r' | b'\n')
 }
 
 /// How many bytes stand before the first LF, or how many there are.

@@ -1,15 +1,23 @@
 //! Tests of bytes, and the tokens that words and marks are.
 
-ghost use Rattle.std.specs.Prelude.{◌≡◌, false, bytes_eq};
+ghost use Rattle.std.specs.Prelude.{◌≡◌, ◌≤◌, false, bytes_eq, length};
 ghost use Rattle.std.specs.Char.{is_ascii_digit};
 ghost use Rattle.std.specs.Str.{is_utf8, str_to_ascii_lowercase};
 ghost use Rattle.std.specs.Option.{option_map};
-ghost use Rattle.dot_text.specs.Lexical.{is_blank, begins_name, is_in_name, is_by_numeral, is_in_line, all, is_empty, is_unsigned, is_numeral, mark_token};
+ghost use Rattle.dot_text.specs.Lexical.{begins_line, is_blank, begins_name, is_in_name, is_by_numeral, is_in_line, all, is_empty, is_unsigned, is_numeral, mark_token};
 ghost use Rattle.dot_text.specs.Scanner.{begins_number};
 ghost use Rattle.dot_text.specs.States.{token_of};
 ghost use Rattle.dot_text.specs.Keywords.{keyword};
 
 use crate::token::Token;
+
+/// Whether a line begins at the place: at byte 0 and behind each LF.
+pub(crate) fn begins_line(bytes: &[u8], place: usize) -> bool
+    requires { place ≤ length bytes.now }
+    ensures { result ≡ begins_line bytes.now place }
+{
+    place == 0 || bytes[place - 1] == b'\n'
+}
 
 pub(crate) fn is_blank(byte: u8) -> bool
     ensures { result ≡ is_blank byte }

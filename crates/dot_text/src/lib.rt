@@ -15,6 +15,7 @@ mod print_tests;
 mod reader;
 #[cfg(test)]
 mod reader_tests;
+mod runs;
 mod scan;
 mod state;
 mod token;

@@ -1,44 +1,31 @@
-//! Reading documents, one byte at a time.
+//! Reading documents, item by item.
 
-ghost use Rattle.std.specs.Prelude.{◌≡◌, ◌<◌, ◌≤◌, ◌+◌, ℕ, length, drop, slice_index, slice_range, Err, IfOk, IsUtf8};
+ghost use Rattle.std.specs.Prelude.{◌≡◌, ◌<◌, ◌≤◌, ◌+◌, ℕ, length, drop, slice_range, Err, IfOk, IfSome, IsUtf8};
 ghost use Rattle.std.specs.Option.{option_map};
 ghost use Rattle.dot_text.specs.Documents.{Stands, Place};
-ghost use Rattle.dot_text.specs.Lexical.{begins_line};
-ghost use Rattle.dot_text.specs.Reading.{behind_token};
+ghost use Rattle.dot_text.specs.Scanner.{front_at};
+ghost use Rattle.dot_text.specs.Reading.{IsAnswer, behind_token};
 ghost use Rattle.dot_text.specs.Stream as stream;
+ghost use Rattle.dot_text.specs.Rests.{rest_front};
 ghost use Rattle.dot_text.specs.States.{state_of};
-ghost use Rattle.dot_text.specs.Scans.{KeepsItem, KeepsStart, mode_of, item_of, start_of};
-ghost use Rattle.dot_text.specs.Readers.{turn_of, scan_of, step_of, answer_of, Fits, FitsStep};
+ghost use Rattle.dot_text.specs.Scans.{Keeps, KeepsItem, mode_of, item_of};
+ghost use Rattle.dot_text.specs.Readers.{front_of, turn_of, answer_of, Fits};
 
 use crate::doc::{Doc, DocFault};
-use crate::laws::stream_decides;
-use crate::lexical::is_utf8;
+use crate::lexical::{begins_line, is_utf8};
 use crate::machine::step;
+use crate::runs::run_on;
 use crate::scan::{Item, Mode, Start, Taken, last_item, starts, take_byte};
 use crate::state::State;
 use crate::token::Token;
 use port_types::{NoMemory, Text};
 use std::alloc::Global;
 
-/// The reader: between items, or within one that began at a place. `line` says that a line begins at the next byte.
-#[derive(Drop)]
-pub(crate) enum Scan {
-    Between(bool, State),
-    Within(usize, Mode, bool, State),
-}
-
 /// A document and where it ends, or the place of the fault.
 #[derive(Drop)]
 pub(crate) enum Answer {
     Found(Doc, usize),
     Fault(usize),
-}
-
-/// The reader behind a byte, or the answer.
-#[derive(Drop)]
-pub(crate) enum Step {
-    Going(Scan),
-    Over(Answer),
 }
 
 /// What an item does: reading fails at its first byte, goes on, or ends behind it.
@@ -96,142 +83,68 @@ fn read_item(
     }
 }
 
-/// Goes on with what the byte at `at` does to the item that began at `start`.
-fn begin(
-    alloc: Global,
-    bytes: &[u8],
-    start: usize,
-    at: usize,
-    state: State,
-    begun: Start,
-) -> Result<Step, NoMemory>
-    requires order { start ≤ at }
-    requires within { at < length bytes.now }
-    requires keeps { KeepsStart (slice_range bytes.now start at) (slice_index bytes.now at) begun }
-    ensures same { IfOk result (λ step. step_of bytes.now (at + 1) step ≡ stream.begin start (slice_range bytes.now start at) (state_of state) (slice_index bytes.now at) (start_of begun)) }
-    ensures fits { IfOk result (λ step. FitsStep bytes.now (at + 1) step) }
+/// The item that begins at `start`, and the place behind it; `None` where none begins there.
+fn item_at(alloc: Global, bytes: &[u8], start: usize) -> Result<Option<(Item, usize)>, NoMemory>
+    requires { start < length bytes.now }
+    ensures same { IfOk result (λ found. front_of bytes.now start found ≡ front_at bytes.now start) }
+    ensures fits { IfOk result (λ found. IfSome found (λ item. Fits bytes.now start item)) }
 {
-    let line = bytes[at] == b'\n';
-    match begun {
-        Start::More(mode) => Ok(Step::Going(Scan::Within(start, mode, line, state))),
-        Start::With(item) => match read_item(alloc, bytes, start, at + 1, state, item)? {
-            Turn::Fails => Ok(Step::Over(Answer::Fault(start))),
-            Turn::Goes(state) => Ok(Step::Going(Scan::Between(line, state))),
-            Turn::Finds(doc) => Ok(Step::Over(Answer::Found(doc, at + 1))),
-        },
-        Start::Bad => Ok(Step::Over(Answer::Fault(start))),
+    match starts(alloc, begins_line(bytes, start), bytes[start]) {
+        Start::More(mode) => rest_of_item(alloc, bytes, start, mode),
+        Start::With(item) => Ok(Some((item, start + 1))),
+        Start::Bad => Ok(None),
     }
 }
 
-/// Goes on with the byte at `at` between items.
-fn begin_anew(
-    alloc: Global,
-    bytes: &[u8],
-    at: usize,
-    line: bool,
-    state: State,
-) -> Result<Step, NoMemory>
-    requires { at < length bytes.now }
-    ensures same { IfOk result (λ step. step_of bytes.now (at + 1) step ≡ stream.push (stream.Between at line (state_of state)) (slice_index bytes.now at)) }
-    ensures fits { IfOk result (λ step. FitsStep bytes.now (at + 1) step) }
-{
-    let begun = starts(alloc, line, bytes[at]);
-    begin(alloc, bytes, at, at, state, begun)
-}
-
-/// Reads the item that ended before the byte at `at`, and goes on with that byte.
-fn again(
+/// The same where the first byte of the item leads into a mode.
+fn rest_of_item(
     alloc: Global,
     bytes: &[u8],
     start: usize,
-    at: usize,
-    line: bool,
-    state: State,
-    item: Item,
-) -> Result<Step, NoMemory>
-    requires order { start ≤ at }
-    requires within { at < length bytes.now }
-    requires keeps { KeepsItem (slice_range bytes.now start at) item }
-    ensures same { IfOk result (λ step. step_of bytes.now (at + 1) step ≡ stream.again line (slice_index bytes.now at) (stream.item_turn start (state_of state) (item_of item) (slice_range bytes.now start at))) }
-    ensures fits { IfOk result (λ step. FitsStep bytes.now (at + 1) step) }
+    mut mode: Mode,
+) -> Result<Option<(Item, usize)>, NoMemory>
+    requires within { start < length bytes.now }
+    requires keeps { Keeps (slice_range bytes.now start (start + 1)) mode }
+    ensures same { IfOk result (λ found. front_of bytes.now start found ≡ rest_front (mode_of mode) (slice_range bytes.now start (start + 1)) (drop (start + 1) bytes.now)) }
+    ensures fits { IfOk result (λ found. IfSome found (λ item. Fits bytes.now start item)) }
 {
-    match read_item(alloc, bytes, start, at, state, item)? {
-        Turn::Fails => Ok(Step::Over(Answer::Fault(start))),
-        Turn::Goes(state) => begin_anew(alloc, bytes, at, line, state),
-        Turn::Finds(doc) => Ok(Step::Over(Answer::Found(doc, at))),
-    }
-}
-
-/// Takes the byte at `at`.
-fn push(alloc: Global, bytes: &[u8], at: usize, scan: Scan) -> Result<Step, NoMemory>
-    requires within { at < length bytes.now }
-    requires fits { Fits bytes.now at scan }
-    ensures same { IfOk result (λ step. step_of bytes.now (at + 1) step ≡ stream.push (scan_of bytes.now at scan) (slice_index bytes.now at)) }
-    ensures fits { IfOk result (λ step. FitsStep bytes.now (at + 1) step) }
-{
-    match scan {
-        Scan::Between(line, state) => begin_anew(alloc, bytes, at, line, state),
-        Scan::Within(start, mode, line, state) => {
-            match take_byte(alloc, mode, &bytes[start..at], bytes[at])? {
-                Taken::Now(begun) => begin(alloc, bytes, start, at, state, begun),
-                Taken::Before(item) => again(alloc, bytes, start, at, line, state, item),
-            }
+    let mut at = start + 1;
+    loop {
+        (mode, at) = run_on(mode, bytes, at)?;
+        if at == bytes.len() {
+            let Some(item) = last_item(alloc, mode, &bytes[start..at])? else {
+                return Ok(None);
+            };
+            return Ok(Some((item, at)));
         }
+        match take_byte(alloc, mode, &bytes[start..at], bytes[at])? {
+            Taken::Now(Start::More(next)) => mode = next,
+            Taken::Now(Start::With(item)) => return Ok(Some((item, at + 1))),
+            Taken::Now(Start::Bad) => return Ok(None),
+            Taken::Before(item) => return Ok(Some((item, at))),
+        }
+        at += 1;
     }
-}
-
-/// The answer where the bytes end within an item.
-fn finish_item(
-    alloc: Global,
-    bytes: &[u8],
-    start: usize,
-    mode: Mode,
-    state: State,
-) -> Result<Answer, NoMemory>
-    requires within { start ≤ length bytes.now }
-    ensures { IfOk result (λ answer. answer_of answer ≡ stream.finish_item start (slice_range bytes.now start (length bytes.now)) (state_of state) (stream.last_item (mode_of mode) (slice_range bytes.now start (length bytes.now)))) }
-{
-    let end = bytes.len();
-    let Some(item) = last_item(alloc, mode, &bytes[start..end])? else {
-        return Ok(Answer::Fault(start));
-    };
-    match read_item(alloc, bytes, start, end, state, item)? {
-        Turn::Fails => Ok(Answer::Fault(start)),
-        Turn::Goes(_) => Ok(Answer::Fault(end)),
-        Turn::Finds(doc) => Ok(Answer::Found(doc, end)),
-    }
-}
-
-/// The answer where the bytes end.
-fn finish(alloc: Global, bytes: &[u8], scan: Scan) -> Result<Answer, NoMemory>
-    requires { Fits bytes.now (length bytes.now) scan }
-    ensures { IfOk result (λ answer. answer_of answer ≡ stream.answer (stream.Going (scan_of bytes.now (length bytes.now) scan))) }
-{
-    match scan {
-        Scan::Between(_, _) => Ok(Answer::Fault(bytes.len())),
-        Scan::Within(start, mode, _, state) => finish_item(alloc, bytes, start, mode, state),
-    }
-}
-
-fn begins_line(bytes: &[u8], at: usize) -> bool
-    requires { at ≤ length bytes.now }
-    ensures { result ≡ begins_line bytes.now at }
-{
-    at == 0 || bytes[at - 1] == b'\n'
 }
 
 fn read(alloc: Global, bytes: &[u8], from: usize) -> Result<Answer, NoMemory>
     requires { from ≤ length bytes.now }
-    ensures { IfOk result (λ answer. answer_of answer ≡ stream.answer (stream.pushes (stream.reader_at bytes.now from) (drop from bytes.now))) }
+    ensures { IfOk result (λ answer. IsAnswer bytes.now from (answer_of answer)) }
 {
-    let mut scan = Scan::Between(begins_line(bytes, from), State::Begin);
-    for at in from..bytes.len() {
-        match push(alloc, bytes, at, scan)? {
-            Step::Going(next) => scan = next,
-            Step::Over(answer) => return Ok(answer),
+    let mut state = State::Begin;
+    let mut at = from;
+    while at < bytes.len() {
+        let Some((item, to)) = item_at(alloc, bytes, at)? else {
+            return Ok(Answer::Fault(at));
+        };
+        match read_item(alloc, bytes, at, to, state, item)? {
+            Turn::Fails => return Ok(Answer::Fault(at)),
+            Turn::Goes(next) => state = next,
+            Turn::Finds(doc) => return Ok(Answer::Found(doc, to)),
         }
+        at = to;
     }
-    finish(alloc, bytes, scan)
+    Ok(Answer::Fault(at))
 }
 
 /// The document that stands in the bytes at a place, behind blanks and comments, with the place behind its last `}`.
@@ -243,7 +156,6 @@ pub fn read_doc(alloc: Global, bytes: &[u8], from: usize) -> Result<(Doc, usize)
     ensures within { IfOk result (λ found. found.1 ≤ length bytes.now) }
     ensures fault { (place : ℕ) → result ≡ Err (DocFault.Syntax place) → Place bytes.now from place }
 {
-    stream_decides();
     match read(alloc, bytes, from) {
         Ok(Answer::Found(doc, to)) => Ok((doc, to)),
         Ok(Answer::Fault(place)) => Err(DocFault::Syntax(place)),

@@ -5,6 +5,8 @@ use Rattle.gx_base.specs.Stream.{before, after}
 use Rattle.graph_core.specs.NamedGraph.{NamedGraph}
 use Rattle.module_sem.specs.Circuit.{circuit_of}
 use Rattle.module_sem.specs.Refines.{Refines}
+use Rattle.graphiti.specs.declared.status.Status.{Status}
+use Rattle.graphiti.specs.declared.status.Status.TheVariants.{Syntax, TooLong, NotYet}
 use Rattle.graphiti.specs.declared.words.Command.{Command}
 use Rattle.graphiti.specs.declared.words.Command.TheVariants.{Print, Strip, Later}
 use Rattle.graphiti.specs.Words.{command_of}
@@ -55,6 +57,12 @@ pub record ReadsFault (place : ℕ) (old new : Option (List ℕ)) : Type 0 where
   pub input : List ℕ
   pub reads : ReadsInput input old new
   pub fault : FaultAt input place
+
+-- an input that is refused, with its status: it is too long, or at fault, which shows at a byte, or a document that is not plain
+pub data IsRefused (input : List ℕ) : Status → Type 0 where
+  too_long : max_input < length input → IsRefused input TooLong
+  at_fault : (at : ℕ) → length input ≤ max_input → FaultAt input at → IsRefused input (Syntax at)
+  not_plain : length input ≤ max_input → IsOther input → IsRefused input NotYet
 
 -- the answer is the text of the stripped graph, which refines the graph and drains what it drains
 pub record IsTextOfStripped (g : NamedGraph) (answer : List ℕ) : Type 0 where

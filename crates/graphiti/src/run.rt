@@ -6,7 +6,7 @@ ghost use Rattle.graph_core.specs.GraphValue.{by_names};
 ghost use Rattle.graphiti.specs.declared.words.Command.TheVariants.{Later};
 ghost use Rattle.graphiti.specs.Status.{line_of};
 ghost use Rattle.graphiti.specs.Input.{IsPlainInput};
-ghost use Rattle.graphiti.specs.Answer.{max_input, command_in, Reads, ReadsOther, ReadsFault, IsAnswer, IsTextOfStripped, WritesAll, WritesFront, AnswersInput, AnswersFront, Answers, AnswersInPart, WritesFrontOf};
+ghost use Rattle.graphiti.specs.Answer.{max_input, command_in, Reads, ReadsOther, ReadsFault, IsRefused, IsAnswer, IsTextOfStripped, WritesAll, WritesFront, AnswersInput, AnswersFront, Answers, AnswersInPart, WritesFrontOf};
 
 use crate::input::read_graph;
 use crate::line::write_line;
@@ -60,6 +60,10 @@ pub fn run<S: Source, O: Sink, E: Sink>(
     ensures complete { Reads (command_in words.now) → IfSome (S.left src.old) (λ input. IsPlainInput input → length input ≤ max_input
         → ¬ (Rose (S.faults src.old) (S.faults src.new)) → ¬ (Rose (O.faults out.old) (O.faults out.new))
         → (result ≡ Status.Done) ⊎ (result ≡ Status.NoMemory)) }
+
+    // Where no read fails an input that is refused gets its status, unless memory runs out.
+    ensures refused { Reads (command_in words.now) → IfSome (S.left src.old) (λ input. (status : Status) → IsRefused input status
+        → ¬ (Rose (S.faults src.old) (S.faults src.new)) → (result ≡ status) ⊎ (result ≡ Status.NoMemory)) }
 
     // The counts never fall.
     ensures counts { (S.faults src.old ≤ S.faults src.new) × (O.faults out.old ≤ O.faults out.new) × (E.faults err.old ≤ E.faults err.new) }

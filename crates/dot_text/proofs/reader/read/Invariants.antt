@@ -1,10 +1,10 @@
-use Rattle.std.proofs.Common.{◌≡◌, drop}
-use Rattle.dot_text.specs.Stream.{Going, pushes, reader_at}
-use Rattle.dot_text.specs.Readers.{scan_of, Fits}
+use Rattle.std.proofs.Common.{◌-◌, length}
+use Rattle.dot_text.specs.States.{state_of}
+use Rattle.dot_text.proofs.Reading.{Upto}
 use Rattle.dot_text.proofs.reader.read.Given as goal
 
 abbrev pub invariant-loop-at : goal.invariant-loop-at
-invariant-loop-at l = record {
-  fits : Fits l.bytes l.at l.scan;
-  same : pushes (Going (scan_of l.bytes l.at l.scan)) (drop l.at l.bytes) ≡ pushes (reader_at l.bytes l.fn.from) (drop l.fn.from l.bytes);
-}
+invariant-loop-at l = Upto l.bytes l.fn.from l.at (state_of l.state)
+
+abbrev pub decreases-loop-at : goal.decreases-loop-at
+decreases-loop-at l = length l.bytes - l.at
