@@ -1,6 +1,6 @@
 -- The pairs of a printed node are those of its kind, and those that it keeps.
-use Rattle.std.proofs.Common.{◌≡◌, ◌≢◌, ◌⊎◌, inl, inr, ℕ, Bool, true, false, cond, ◌||◌, T, List, [], ◌∷◌, ◌++◌, length, Option, Some, None, Ordering, codes, refl, sym, ap, subst, ◌∙◌}
-use Rattle.std.specs.Prelude.{bytes_eq, AllPairs}
+use Rattle.std.proofs.Common.{◌≡◌, ◌≢◌, ◌⊎◌, inl, inr, ℕ, Bool, true, false, cond, ◌||◌, T, List, [], ◌∷◌, ◌++◌, Option, Some, None, Ordering, codes, refl, sym, ap, ◌∙◌}
+use Rattle.std.specs.Prelude.{bytes_eq}
 use Rattle.std.specs.Cmp.{IsTotalOrder}
 use Rattle.std.specs.Option.{option_or}
 use Rattle.std.specs.FinMap as map
@@ -22,7 +22,7 @@ use Rattle.graphiti.specs.Plain.{last_value, is_owned, kept_of, side_value, HasO
 use Rattle.graphiti.proofs.EntryLists as lists
 use Rattle.graphiti.proofs.Lookups.{name_total, name_same, name_cases}
 use Rattle.graphiti.proofs.PlainLists.{AreApart, found_first, found_behind}
-use Rattle.graphiti.proofs.PlainKept.{same_bytes, other_bytes, value_kept, in_reverse, or_none}
+use Rattle.graphiti.proofs.PlainKept.{same_bytes, other_bytes, in_reverse, or_none}
 
 -- ---- the entries of a map
 
