@@ -24,7 +24,7 @@ use Rattle.graphiti.specs.Plain.{last_value, is_owned, kept_of, side_value, HasO
 use Rattle.graphiti.proofs.EntryLists as lists
 use Rattle.graphiti.proofs.Lookups.{name_total, name_same, name_cases}
 use Rattle.graphiti.proofs.PlainLists.{AreApart, found_first, found_behind}
-use Rattle.graphiti.proofs.PlainKept.{same_bytes, other_bytes, value_kept, in_reverse, or_none}
+use Rattle.graphiti.proofs.PlainKept.{same_bytes, other_bytes, in_reverse, or_none}
 
 -- ---- the entries of a map
 

@@ -10,15 +10,14 @@ use Rattle.dot_text.specs.Grammar.{Pair}
 use Rattle.dot_text.specs.Laws.{OneDocument, StandingPrints, StandingIsUtf8}
 use Rattle.dot_text.specs.Printing.{EachOf, PairPrints, NodePrints}
 use Rattle.dot_text.specs.Texts.{PairTexts, NodeTexts}
-use Rattle.dot_text.specs.declared.doc.Doc.{Doc}
 use Rattle.dot_text.specs.declared.doc.DocNode.{DocNode}
 use Rattle.graph_core.specs.Name.{Name, name_cmp}
 use Rattle.graph_core.specs.Node.{Body}
 use Rattle.graph_core.specs.NamedGraph.{NamedGraph}
 use Rattle.graph_print.specs.CanonicalText.{text_of}
-use Rattle.graphiti.specs.Plain.{last_value, is_owned, kept_of, ReadsNode, ReadsNodes, IsPlainOf, PlainIsOneGraph}
+use Rattle.graphiti.specs.Plain.{last_value, is_owned, ReadsNode, ReadsNodes, IsPlainOf, PlainIsOneGraph}
 use Rattle.graphiti.specs.Input.{IsInputOf}
-use Rattle.graphiti.specs.ReadBack.{CanBeWritten, CanBeKept, CanBeRead, TextReadsBack, ReadCanBeRead, PrintReadsBack, InputIsOneGraph, PrintOfPrint}
+use Rattle.graphiti.specs.ReadBack.{CanBeKept, CanBeRead, TextReadsBack, ReadCanBeRead, PrintReadsBack, InputIsOneGraph, PrintOfPrint}
 use Rattle.graphiti.proofs.Lookups.{name_total}
 use Rattle.graphiti.proofs.PlainValues.{same_value, no_answer}
 use Rattle.graphiti.proofs.PlainKept.{value_kept, in_reverse, not_owned}

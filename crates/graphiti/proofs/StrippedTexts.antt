@@ -1,13 +1,11 @@
 -- A stripped graph is within the limits of reading where the graph is.
-use Rattle.std.proofs.Common.{◌≡◌, ◌≢◌, inl, inr, ℕ, zero, suc, ◌-◌, ◌≤◌, true, cond, List, [], ◌∷◌, length, Some, None, Ordering, is_some, refl, sym, ap, ◌∙◌, arith}
+use Rattle.std.proofs.Common.{◌≡◌, inl, inr, ℕ, zero, suc, ◌-◌, ◌≤◌, cond, List, [], ◌∷◌, length, Some, Ordering, is_some, refl, sym, ap, ◌∙◌, arith}
 use Rattle.std.specs.Cmp.{IsTotalOrder}
 use Rattle.std.specs.FinMap as map
 use Rattle.std.specs.FinMap.{FinMap, IsAntisymmetric}
 use Rattle.std.specs.FinMap.Entries.{find}
-use Rattle.graph_core.specs.NamedGraph.{NamedGraph}
 use Rattle.graphiti.specs.Behaviour.{StrippedTyped}
-use Rattle.graphiti.specs.ReadBack.{CanBeRead, StrippedCanBeRead}
-use Rattle.graphiti.specs.Stripped.{IsStripped}
+use Rattle.graphiti.specs.ReadBack.{StrippedCanBeRead}
 use Rattle.graphiti.proofs.Lookups.{name_total, name_same, key_cases, get_removed, get_not_removed}
 use Rattle.graphiti.proofs.PlainLists.{found_first}
 use Rattle.graphiti.proofs.PlainValues.{no_answer}

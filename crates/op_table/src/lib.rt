@@ -3,8 +3,10 @@
 //! - `Op`: the 28 operators.
 //! - `op_name`, `short_name`: the names in a graph and in a function; `op_of`, `op_of_short`: the operator of a name.
 //! - `typed_op`: whether an operator takes and gives these widths.
+//! - `apply`: what an operator computes, exactly the table of `specs/Value.antt`.
+//! - The other functions do nothing: their contracts are laws of the table, for callers whose proofs need them.
 //!
-//! No call takes memory.
+//! No call takes memory, and none fails.
 #![tactic(auto)]
 
 mod arithmetic;

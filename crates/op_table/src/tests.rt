@@ -147,24 +147,35 @@ const CORNERS: [(Op, Corner, Corner, Corner); 54] = [
     (Op::Sge, Corner::Least, Corner::Least, Corner::One),
 ];
 
-#[test]
-fn corners_at_each_width(rt: HostRuntime) {
-    for (op, a, b, want) in CORNERS {
+/// The value of an operator at two corners.
+fn at_corners(op: Op, width: u8, a: Corner, b: Corner) -> Option<u64>
+    requires positive { 1 ≤ width }
+    requires narrow { width ≤ 64 }
+{
+    of_two(
+        op,
+        width,
+        number(a, width),
+        number(b, width),
+        out_width(op, width),
+    )
+}
+
+/// The first row whose value at some width is another one.
+fn first_other(rows: &[(Op, Corner, Corner, Corner)]) -> Option<usize> {
+    for (index, (op, a, b, want)) in rows.iter().enumerate() {
         for width in [1, 8, 32, 63, 64] {
-            let value = of_two(
-                op,
-                width,
-                number(a, width),
-                number(b, width),
-                out_width(op, width),
-            );
-            assert_eq!(rt;
-                value,
-                Some(number(want, width)),
-                "{op:?} {a:?} {b:?} at {width}"
-            );
+            if at_corners(*op, width, *a, *b) != Some(number(*want, width)) {
+                return Some(index);
+            }
         }
     }
+    None
+}
+
+#[test]
+fn corners_at_each_width(rt: HostRuntime) {
+    assert_eq!(rt; first_other(&CORNERS), None);
 }
 
 const FAR: [(Op, u8, u64, u64, u64); 21] = [
@@ -403,16 +414,25 @@ const NAMES: [(Op, &str, &str); 28] = [
     (Op::Ret, "ret_op", "ret"),
 ];
 
+/// Whether the operator has these names, and each is read back in its own place alone.
+fn has_names(op: Op, name: &str, short: &str) -> bool {
+    op_name(op) == name
+        && short_name(op) == short
+        && op_of(name.as_bytes()) == Some(op)
+        && op_of_short(short.as_bytes()) == Some(op)
+        && op_of(short.as_bytes()).is_none()
+        && op_of_short(name.as_bytes()).is_none()
+}
+
 #[test]
 fn names_read_back(rt: HostRuntime) {
     for (op, name, short) in NAMES {
-        assert_eq!(rt; op_name(op), name);
-        assert_eq!(rt; short_name(op), short);
-        assert_eq!(rt; op_of(name.as_bytes()), Some(op));
-        assert_eq!(rt; op_of_short(short.as_bytes()), Some(op));
-        assert_eq!(rt; op_of(short.as_bytes()), None);
-        assert_eq!(rt; op_of_short(name.as_bytes()), None);
+        assert!(rt; has_names(op, name, short), "{name}");
     }
+}
+
+#[test]
+fn other_words_name_no_operator(rt: HostRuntime) {
     for word in [
         "",
         "add_op ",
@@ -421,13 +441,12 @@ fn names_read_back(rt: HostRuntime) {
         "icmp_add_op",
         "ne_op",
         "icmp_ne",
-        "addop",
         "load_op",
     ] {
-        assert_eq!(rt; op_of(word.as_bytes()), None, "{word}");
+        assert!(rt; op_of(word.as_bytes()).is_none(), "{word}");
     }
     for word in ["", "ad", "addd", "ADD", "icmp_ne", "op"] {
-        assert_eq!(rt; op_of_short(word.as_bytes()), None, "{word}");
+        assert!(rt; op_of_short(word.as_bytes()).is_none(), "{word}");
     }
 }
 
@@ -478,6 +497,6 @@ const WIDTHS: [(Op, &[u8], u8, bool); 41] = [
 #[test]
 fn typed_widths(rt: HostRuntime) {
     for (op, ins, out, want) in WIDTHS {
-        assert_eq!(rt; typed_op(op, ins, out), want, "{op:?} {ins:?} {out}");
+        assert_eq!(rt; typed_op(op, ins, out), want, "{op:?} to {out}");
     }
 }

@@ -31,7 +31,7 @@ pub(crate) fn signed(width: u8, number: u64) -> i64
     }
 }
 
-/// The number of this width with this signed reading, modulo 2 to the power of the width.
+/// The number of this width that differs from a whole number by a multiple of 2 to the power of the width.
 pub(crate) fn modulo(width: u8, whole: i64) -> u64
     requires { IsWidth width }
     ensures { result ≡ modulo width whole }

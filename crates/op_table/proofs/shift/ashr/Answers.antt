@@ -11,15 +11,15 @@ use Rattle.op_table.proofs.shift.ashr.Goals as goal
 
 pub returns : goal.returns
 returns c =
-    let w = c.args.width in
-    let reading = signed w c.args.a in
+    let width = c.args.width in
+    let reading = signed width c.args.a in
     let places = min c.args.b 63 in
-    let small = mag-signed w c.args.a c.requires.width.positive c.requires.fits in
-    let half = power_rises (w - 1) 63 (omega arith) in
+    let small = mag-signed width c.args.a c.requires.width.positive c.requires.fits in
+    let half = power_rises (width - 1) 63 (omega arith) in
     let capped = shift_capped reading c.args.b (omega (arith, small, half)) in
     let reading_fits : FitsSigned w64 c.signed.result = search rules in
     let shifted_fits : FitsSigned w64 (int_shr reading places) = record { sfits = omega (arith, mag_shr reading (2 ^ places), small, half) } in
     c.modulo.ensures
-    ∙ ap (λ z. modulo w (cast_signed w64 (cast_unsigned w64 (int_shr z c.min.result)))) (to_z-of_z w64 c.signed.result reading_fits ∙ c.signed.ensures)
-    ∙ ap (λ k. modulo w (cast_signed w64 (cast_unsigned w64 (int_shr reading k)))) c.min.ensures
-    ∙ ap (modulo w) (to_z-of_z w64 (int_shr reading places) shifted_fits ∙ sym capped)
+    ∙ ap (λ z. modulo width (cast_signed w64 (cast_unsigned w64 (int_shr z c.min.result)))) (to_z-of_z w64 c.signed.result reading_fits ∙ c.signed.ensures)
+    ∙ ap (λ k. modulo width (cast_signed w64 (cast_unsigned w64 (int_shr reading k)))) c.min.ensures
+    ∙ ap (modulo width) (to_z-of_z w64 (int_shr reading places) shifted_fits ∙ sym capped)
