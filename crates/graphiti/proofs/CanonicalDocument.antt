@@ -20,7 +20,7 @@ use Rattle.graph_core.specs.Kind.{Shape, ins, outs, KindOk}
 use Rattle.graph_core.specs.Node.{Body}
 use Rattle.graph_core.specs.NamedGraph.{NamedGraph, IsWire}
 use Rattle.graph_print.specs.CanonicalText.{kind_word, pairs_of, node_entry, edge_entry, canonical_document}
-use Rattle.graphiti.specs.Plain.{ReadsNode, ReadsNodes, ReadsEdges, IsPlainOf}
+use Rattle.graphiti.specs.Plain.{HasOneField, ReadsNode, ReadsNodes, ReadsEdges, IsPlainOf}
 use Rattle.graphiti.specs.ReadBack.{CanBeWritten, CanBeKept, CanBeRead, TextReadsBack}
 use Rattle.graphiti.proofs.Lookups.{name_total, name_same, port_total, port_same}
 use Rattle.graphiti.proofs.PlainLists.{AreApart, pairs-from_apart, each_entry}
