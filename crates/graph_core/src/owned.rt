@@ -8,7 +8,10 @@ use crate::kind::Kind;
 pub fn owns(kind: &Kind, key: &[u8]) -> bool
     ensures { result ≡ is_owned kind.now key.now }
 {
-    key == b"type".as_slice() || key == b"in".as_slice() || key == b"out".as_slice() || names(kind, key)
+    key == b"type".as_slice()
+        || key == b"in".as_slice()
+        || key == b"out".as_slice()
+        || names(kind, key)
 }
 
 /// Whether the kind's row of the table names the attribute.

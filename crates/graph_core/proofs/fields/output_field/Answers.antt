@@ -11,4 +11,3 @@ returns-in-Fork c =
     let is_there = subst (λ kind. IsSome (port_get (outs kind) c.args.port)) c.in-Fork.is c.requires.there in
     let found = ap (λ kind. port_get (outs kind) c.args.port) c.in-Fork.is ∙ port_get-same c.in-Fork.field-1 c.args.port c.in-Fork.shape is_there in
     c.field_in.ensures ∙ ap (λ o. field_of o c.args.index) (sym found)
-
