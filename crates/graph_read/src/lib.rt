@@ -10,6 +10,8 @@ mod component;
 mod fault;
 mod kept;
 mod node;
+#[cfg(test)]
+mod node_tests;
 mod plain_rows;
 mod rows;
 mod shapes;
