@@ -29,6 +29,8 @@ pub(crate) fn is_named(statement: &DocNode) -> bool
     ensures same { result ≡ is_name statement.now.name }
     ensures name { IsTrue result → IsName statement.now.name }
 {
+    // A proof knows that a `Text` is UTF-8 once its bytes are read.
+    let _ = statement.name.bytes();
     graph_core::is_name(&statement.name)
 }
 
