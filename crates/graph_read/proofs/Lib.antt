@@ -3,3 +3,4 @@ mod Numbers
 mod Names
 mod Lookups
 mod KeptPairs
+mod RowsMet
