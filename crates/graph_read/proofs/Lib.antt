@@ -4,3 +4,5 @@ mod Names
 mod Lookups
 mod KeptPairs
 mod RowsMet
+mod AttributeRowsMet
+mod RowsBack

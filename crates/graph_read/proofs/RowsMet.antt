@@ -24,7 +24,7 @@ use Rattle.graph_read.specs.Laws.{MeetsRow, AreRead, component_at, HasPorts, Say
 
 -- ---- answers
 
-same_kind : (found kind : Kind) → ◌≡◌ {A = Reading} (Ok found) (Ok kind) → found ≡ kind
+pub same_kind : (found kind : Kind) → ◌≡◌ {A = Reading} (Ok found) (Ok kind) → found ≡ kind
 same_kind found kind e = cc
 
 pub refused : {P : Type 0} (fault : GraphFaultKind) (kind : Kind) → ◌≡◌ {A = Reading} (Err fault) (Ok kind) → P
@@ -34,18 +34,18 @@ where_are : (are : Bool) (found kind : Kind) → where_ports are found ≡ Ok ki
 where_are true found kind e = (refl, same_kind found kind e)
 where_are false found kind e = refused BadPorts kind e
 
-same_shape : (a b : Shape) → bytes_eq a b ≡ true → a ≡ b
+pub same_shape : (a b : Shape) → bytes_eq a b ≡ true → a ≡ b
 same_shape a b test = (bytes_eq-Decides a b).0 test
 
 -- ports of one shape
-same_shapes : (shape : Shape) (shapes : List Shape) → all_are shape shapes ≡ true → shapes ≡ replicate (length shapes) shape
+pub same_shapes : (shape : Shape) (shapes : List Shape) → all_are shape shapes ≡ true → shapes ≡ replicate (length shapes) shape
 same_shapes shape [] test = refl
 same_shapes shape (other ∷ shapes) test =
     let parts = and_parts (bytes_eq other shape) (all_are shape shapes) test in
     λ i. same_shape other shape parts.0 i ∷ same_shapes shape shapes parts.1 i
 
 -- the kind that was found is this one
-becomes : (component : Component) (given fed : List Shape) (pairs : List Pair) (found kind : Kind) → found ≡ kind → MeetsRow component given fed pairs found → MeetsRow component given fed pairs kind
+pub becomes : (component : Component) (given fed : List Shape) (pairs : List Pair) (found kind : Kind) → found ≡ kind → MeetsRow component given fed pairs found → MeetsRow component given fed pairs kind
 becomes component given fed pairs found kind same meets = subst (λ (k : Kind). MeetsRow component given fed pairs k) same meets
 
 -- ---- the rows without attributes
