@@ -6,3 +6,4 @@ mod KeptPairs
 mod RowsMet
 mod AttributeRowsMet
 mod RowsBack
+mod NumberTexts
