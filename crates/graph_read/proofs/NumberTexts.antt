@@ -95,5 +95,5 @@ decimal_tags tags some few =
     let high = le-leb (digits_value 10 (decimal tags)) 256 (omega (arith, is)) in
     ap (λ (b : Bool). cond b (Some (digits_value 10 (decimal tags))) None)
     (and_from (is_numeral (decimal tags) && nat_le 1 (digits_value 10 (decimal tags))) (nat_le (digits_value 10 (decimal tags)) 256)
-        (and_from (is_numeral (decimal tags)) (nat_le 1 (digits_value 10 (decimal tags))) numeral low) high)
+    (and_from (is_numeral (decimal tags)) (nat_le 1 (digits_value 10 (decimal tags))) numeral low) high)
     ∙ ap (λ (n : ℕ). Some n) is

@@ -58,7 +58,7 @@ ctrl_merge_back shape zero width some few = absurd (omega arith)
 ctrl_merge_back shape (suc count) width some few =
     let same = length-replicate (suc count) shape in
     let apart : nat_le (length (replicate (suc count) shape)) (2 ^ width) ≡ true =
-        ap (λ (n : ℕ). nat_le n (2 ^ width)) same ∙ le-leb (suc count) (2 ^ width) few
+    ap (λ (n : ℕ). nat_le n (2 ^ width)) same ∙ le-leb (suc count) (2 ^ width) few
     in
     where_right (all_are shape (replicate (suc count) shape) && nat_le (length (replicate (suc count) shape)) (2 ^ width)) (CtrlMerge shape (length (replicate (suc count) shape)) width)
     (and_from _ _ (all_same shape (suc count)) apart)

@@ -112,18 +112,36 @@ fn words(rt: HostRuntime) -> Result<(), Fail> {
     let alloc = rt.alloc();
     for (pairs, want) in [
         ([("in", "in1:8")].as_slice(), NoKind),
-        ([("type", "entry"), ("out", "out1:8")].as_slice(), UnknownKind),
+        (
+            [("type", "entry"), ("out", "out1:8")].as_slice(),
+            UnknownKind,
+        ),
         ([("type", "")].as_slice(), UnknownKind),
-        ([("type", "Source0"), ("out", "out1:8")].as_slice(), UnknownKind),
+        (
+            [("type", "Source0"), ("out", "out1:8")].as_slice(),
+            UnknownKind,
+        ),
         ([("type", "Pure"), ("in", "in1*:8")].as_slice(), UnknownKind),
         ([("type", "MC"), ("in", "in1*l0a:8")].as_slice(), MemoryNode),
         ([("type", "LSQ")].as_slice(), MemoryNode),
         ([("type", "lsq")].as_slice(), UnknownKind),
         ([("type", "Buffer"), ("type", "MC")].as_slice(), MemoryNode),
-        ([("type", "Buffer"), ("in", "x in1*:8")].as_slice(), MemoryPort),
-        ([("type", "Buffer"), ("in", "in1:99"), ("out", "out1:8*")].as_slice(), MemoryPort),
-        ([("type", "Buffer"), ("in", "in1:8"), ("out", "*")].as_slice(), MemoryPort),
-        ([("type", "Constant"), ("in", "in1:8 *"), ("out", "out1:8")].as_slice(), MemoryPort),
+        (
+            [("type", "Buffer"), ("in", "x in1*:8")].as_slice(),
+            MemoryPort,
+        ),
+        (
+            [("type", "Buffer"), ("in", "in1:99"), ("out", "out1:8*")].as_slice(),
+            MemoryPort,
+        ),
+        (
+            [("type", "Buffer"), ("in", "in1:8"), ("out", "*")].as_slice(),
+            MemoryPort,
+        ),
+        (
+            [("type", "Constant"), ("in", "in1:8 *"), ("out", "out1:8")].as_slice(),
+            MemoryPort,
+        ),
     ] {
         check_refused(&rt, alloc, pairs, want)?;
     }
@@ -173,7 +191,11 @@ fn refused_ports(rt: HostRuntime) -> Result<(), Fail> {
         ("CntrlMerge", "in1:8 in2:8", "out1:8 out2?:0"),
         ("CntrlMerge", "in1:8 in2:8 in3:8", "out1:8 out2?:1"),
         ("CntrlMerge", "in1:8 in2:8", "out1:8 out2?:1.1"),
-        ("CtrlMerge", "in1:8 in2:8 in3:8 in4:8 in5:8", "out1:8 out2?:2"),
+        (
+            "CtrlMerge",
+            "in1:8 in2:8 in3:8 in4:8 in5:8",
+            "out1:8 out2?:2",
+        ),
         ("Init", "in1:1", ""),
         ("Init", "in1:1", "out1:2"),
         ("Init", "in1:2", "out1:2"),
@@ -182,7 +204,12 @@ fn refused_ports(rt: HostRuntime) -> Result<(), Fail> {
         ("Tagger", "in1:8 in2:2.8", "out1:2.8 out2:9"),
         ("Tagger", "in1:8 in2:8", "out1:8 out2:8"),
     ] {
-        check_refused(&rt, alloc, &[("type", word), ("in", ins), ("out", outs)], BadPorts)?;
+        check_refused(
+            &rt,
+            alloc,
+            &[("type", word), ("in", ins), ("out", outs)],
+            BadPorts,
+        )?;
     }
     check_refused(&rt, alloc, &[("type", "Buffer")], BadPorts)
 }
@@ -194,23 +221,112 @@ fn refused_attributes(rt: HostRuntime) -> Result<(), Fail> {
     let operator = ("type", "Operator");
     let init = ("type", "Init");
     for (pairs, want) in [
-        ([operator, ("in", "in1:8 in2:4"), ("out", "out1:4.4")].as_slice(), BadPorts),
-        ([operator, ("in", "in1:8 in2:8"), ("out", "out1:8")].as_slice(), BadOp),
-        ([operator, ("in", "in1:8 in2:8"), ("out", "out1:8"), ("op", "add")].as_slice(), BadOp),
-        ([operator, ("in", "in1:8 in2:9"), ("out", "out1:8"), ("op", "add_op")].as_slice(), BadOp),
-        ([operator, ("in", "in1:8 in2:8"), ("out", "out1:8"), ("op", "icmp_ult_op")].as_slice(), BadOp),
-        ([operator, ("out", "out1:8"), ("op", "add_op")].as_slice(), BadOp),
-        ([operator, ("in", "in1:8"), ("out", "out1:8"), ("op", "ret_op"), ("op", "no")].as_slice(), BadOp),
-        ([("type", "Constant"), ("in", "in1:0"), ("out", "out1:8")].as_slice(), BadValue),
-        ([init, ("in", "in1:1"), ("out", "out1:2"), ("value", "2")].as_slice(), BadPorts),
-        ([init, ("in", "in1:1"), ("out", "out1:1"), ("value", "2")].as_slice(), BadValue),
-        ([init, ("in", "in1:1"), ("out", "out1:1"), ("value", "x"), ("ooo", "0")].as_slice(), BadValue),
-        ([init, ("in", "in1:1"), ("out", "out1:1"), ("value", "")].as_slice(), BadValue),
-        ([init, ("in", "in1:1"), ("out", "out1:1"), ("ooo", "257")].as_slice(), BadTags),
-        ([init, ("in", "in1:1"), ("out", "out1:1"), ("ooo", "0")].as_slice(), BadTags),
-        ([init, ("in", "in1:1"), ("out", "out1:1"), ("ooo", "04")].as_slice(), BadTags),
-        ([init, ("in", "in1:1"), ("out", "out1:1"), ("ooo", "0x4")].as_slice(), BadTags),
-        ([("type", "Tagger"), ("in", "in1:8 in2:2.8"), ("out", "out1:2.8 out2:9"), ("tags", "x")].as_slice(), BadPorts),
+        (
+            [operator, ("in", "in1:8 in2:4"), ("out", "out1:4.4")].as_slice(),
+            BadPorts,
+        ),
+        (
+            [operator, ("in", "in1:8 in2:8"), ("out", "out1:8")].as_slice(),
+            BadOp,
+        ),
+        (
+            [
+                operator,
+                ("in", "in1:8 in2:8"),
+                ("out", "out1:8"),
+                ("op", "add"),
+            ]
+            .as_slice(),
+            BadOp,
+        ),
+        (
+            [
+                operator,
+                ("in", "in1:8 in2:9"),
+                ("out", "out1:8"),
+                ("op", "add_op"),
+            ]
+            .as_slice(),
+            BadOp,
+        ),
+        (
+            [
+                operator,
+                ("in", "in1:8 in2:8"),
+                ("out", "out1:8"),
+                ("op", "icmp_ult_op"),
+            ]
+            .as_slice(),
+            BadOp,
+        ),
+        (
+            [operator, ("out", "out1:8"), ("op", "add_op")].as_slice(),
+            BadOp,
+        ),
+        (
+            [
+                operator,
+                ("in", "in1:8"),
+                ("out", "out1:8"),
+                ("op", "ret_op"),
+                ("op", "no"),
+            ]
+            .as_slice(),
+            BadOp,
+        ),
+        (
+            [("type", "Constant"), ("in", "in1:0"), ("out", "out1:8")].as_slice(),
+            BadValue,
+        ),
+        (
+            [init, ("in", "in1:1"), ("out", "out1:2"), ("value", "2")].as_slice(),
+            BadPorts,
+        ),
+        (
+            [init, ("in", "in1:1"), ("out", "out1:1"), ("value", "2")].as_slice(),
+            BadValue,
+        ),
+        (
+            [
+                init,
+                ("in", "in1:1"),
+                ("out", "out1:1"),
+                ("value", "x"),
+                ("ooo", "0"),
+            ]
+            .as_slice(),
+            BadValue,
+        ),
+        (
+            [init, ("in", "in1:1"), ("out", "out1:1"), ("value", "")].as_slice(),
+            BadValue,
+        ),
+        (
+            [init, ("in", "in1:1"), ("out", "out1:1"), ("ooo", "257")].as_slice(),
+            BadTags,
+        ),
+        (
+            [init, ("in", "in1:1"), ("out", "out1:1"), ("ooo", "0")].as_slice(),
+            BadTags,
+        ),
+        (
+            [init, ("in", "in1:1"), ("out", "out1:1"), ("ooo", "04")].as_slice(),
+            BadTags,
+        ),
+        (
+            [init, ("in", "in1:1"), ("out", "out1:1"), ("ooo", "0x4")].as_slice(),
+            BadTags,
+        ),
+        (
+            [
+                ("type", "Tagger"),
+                ("in", "in1:8 in2:2.8"),
+                ("out", "out1:2.8 out2:9"),
+                ("tags", "x"),
+            ]
+            .as_slice(),
+            BadPorts,
+        ),
     ] {
         check_refused(&rt, alloc, pairs, want)?;
     }
@@ -246,7 +362,12 @@ fn values(rt: HostRuntime) -> Result<(), Fail> {
         ("0x+1", none),
         (" 1", none),
     ] {
-        let pairs = [("type", "Constant"), ("in", "in1:0"), ("out", "out1:8"), ("value", value)];
+        let pairs = [
+            ("type", "Constant"),
+            ("in", "in1:0"),
+            ("out", "out1:8"),
+            ("value", value),
+        ];
         check_kind(&rt, alloc, &pairs, want)?;
     }
     Ok(())
@@ -274,10 +395,19 @@ fn tags(rt: HostRuntime) -> Result<(), Fail> {
     ] {
         let ins = format!(in alloc; "in1:8 in2:{width}.8")?;
         let outs = format!(in alloc; "out1:{width}.8 out2:8")?;
-        let pairs = [("type", "Tagger"), ("in", ins.as_str()), ("out", outs.as_str()), ("tags", tags)];
+        let pairs = [
+            ("type", "Tagger"),
+            ("in", ins.as_str()),
+            ("out", outs.as_str()),
+            ("tags", tags),
+        ];
         check_kind(&rt, alloc, &pairs, want)?;
     }
-    let absent = [("type", "Tagger"), ("in", "in1:8 in2:2.8"), ("out", "out1:2.8 out2:8")];
+    let absent = [
+        ("type", "Tagger"),
+        ("in", "in1:8 in2:2.8"),
+        ("out", "out1:2.8 out2:8"),
+    ];
     check_refused(&rt, alloc, &absent, BadTags)
 }
 
@@ -289,29 +419,140 @@ fn kinds(rt: HostRuntime) -> Result<(), Fail> {
         ("Entry", "in1?:8", "out1:8", "Entry(Shape { widths: [8] })"),
         ("Exit", "in1:8", "", "Exit(Shape { widths: [8] })"),
         ("Exit", "in1:8", "out1:8", "Exit(Shape { widths: [8] })"),
-        ("Buffer", " in1:0\t", "out1:0", "Buffer(Shape { widths: [0] })"),
-        ("Fork", "in1:64", "out1:64 out2:64", "Fork(Shape { widths: [64] }, 2)"),
-        ("Join", "in1:4 in2:8.1", "out1:4.8.1", "Join(Items { items: [Shape { widths: [4] }, Shape { widths: [8, 1] }] })"),
-        ("Split", "in1:4.8.1", "out1:4 out2:8.1", "Split(Items { items: [Shape { widths: [4] }, Shape { widths: [8, 1] }] })"),
+        (
+            "Buffer",
+            " in1:0\t",
+            "out1:0",
+            "Buffer(Shape { widths: [0] })",
+        ),
+        (
+            "Fork",
+            "in1:64",
+            "out1:64 out2:64",
+            "Fork(Shape { widths: [64] }, 2)",
+        ),
+        (
+            "Join",
+            "in1:4 in2:8.1",
+            "out1:4.8.1",
+            "Join(Items { items: [Shape { widths: [4] }, Shape { widths: [8, 1] }] })",
+        ),
+        (
+            "Split",
+            "in1:4.8.1",
+            "out1:4 out2:8.1",
+            "Split(Items { items: [Shape { widths: [4] }, Shape { widths: [8, 1] }] })",
+        ),
         ("Source", "", "out1:0", "Source0(Shape { widths: [0] })"),
         ("Sink", "in1:0", "", "Sink0(Shape { widths: [0] })"),
-        ("Mux", "in1?:1 in2:4.32 in3-:4.32", "out1:4.32", "Mux(Shape { widths: [4, 32] })"),
-        ("Branch", "in1:8 in2?:1", "out1+:8 out2-:8", "Branch(Shape { widths: [8] })"),
-        ("Merge", "in1:8", "out1:8", "Merge(Shape { widths: [8] }, 1)"),
-        ("CntrlMerge", "in1:8", "out1:8 out2?:0", "CtrlMerge(Shape { widths: [8] }, 1, 0)"),
-        ("CntrlMerge", "in1:8 in2:8", "out1:8 out2?:1", "CtrlMerge(Shape { widths: [8] }, 2, 1)"),
-        ("CtrlMerge", "in1:8 in2:8 in3:8", "out1:8 out2?:2", "CtrlMerge(Shape { widths: [8] }, 3, 2)"),
+        (
+            "Mux",
+            "in1?:1 in2:4.32 in3-:4.32",
+            "out1:4.32",
+            "Mux(Shape { widths: [4, 32] })",
+        ),
+        (
+            "Branch",
+            "in1:8 in2?:1",
+            "out1+:8 out2-:8",
+            "Branch(Shape { widths: [8] })",
+        ),
+        (
+            "Merge",
+            "in1:8",
+            "out1:8",
+            "Merge(Shape { widths: [8] }, 1)",
+        ),
+        (
+            "CntrlMerge",
+            "in1:8",
+            "out1:8 out2?:0",
+            "CtrlMerge(Shape { widths: [8] }, 1, 0)",
+        ),
+        (
+            "CntrlMerge",
+            "in1:8 in2:8",
+            "out1:8 out2?:1",
+            "CtrlMerge(Shape { widths: [8] }, 2, 1)",
+        ),
+        (
+            "CtrlMerge",
+            "in1:8 in2:8 in3:8",
+            "out1:8 out2?:2",
+            "CtrlMerge(Shape { widths: [8] }, 3, 2)",
+        ),
         ("Init", "in1:1", "out1:1", "Init(0, 0)"),
     ] {
-        check_kind(&rt, alloc, &[("type", word), ("in", ins), ("out", outs)], want)?;
+        check_kind(
+            &rt,
+            alloc,
+            &[("type", word), ("in", ins), ("out", outs)],
+            want,
+        )?;
     }
     for (pairs, want) in [
-        ([("type", "Operator"), ("in", "in1:8 in2:8"), ("out", "out1:8"), ("op", "add_op")].as_slice(), "Operator(Add, Items { items: [8, 8] }, 8)"),
-        ([("type", "Operator"), ("in", "in1?:1 in2+:8 in3-:8"), ("out", "out1:8"), ("op", "select_op")].as_slice(), "Operator(Select, Items { items: [1, 8, 8] }, 8)"),
-        ([("type", "Operator"), ("in", "in1:0"), ("out", "out1:0"), ("op", "ret_op")].as_slice(), "Operator(Ret, Items { items: [0] }, 0)"),
-        ([("type", "Init"), ("in", "in1:1"), ("out", "out1:1"), ("value", "0x01"), ("ooo", "256")].as_slice(), "Init(1, 256)"),
-        ([("type", "Init"), ("in", "in1:1"), ("out", "out1:1"), ("ooo", "1")].as_slice(), "Init(0, 1)"),
-        ([("in", "*"), ("in", "in1:8"), ("type", "x"), ("out", "out1:8"), ("type", "Buffer")].as_slice(), "Buffer(Shape { widths: [8] })"),
+        (
+            [
+                ("type", "Operator"),
+                ("in", "in1:8 in2:8"),
+                ("out", "out1:8"),
+                ("op", "add_op"),
+            ]
+            .as_slice(),
+            "Operator(Add, Items { items: [8, 8] }, 8)",
+        ),
+        (
+            [
+                ("type", "Operator"),
+                ("in", "in1?:1 in2+:8 in3-:8"),
+                ("out", "out1:8"),
+                ("op", "select_op"),
+            ]
+            .as_slice(),
+            "Operator(Select, Items { items: [1, 8, 8] }, 8)",
+        ),
+        (
+            [
+                ("type", "Operator"),
+                ("in", "in1:0"),
+                ("out", "out1:0"),
+                ("op", "ret_op"),
+            ]
+            .as_slice(),
+            "Operator(Ret, Items { items: [0] }, 0)",
+        ),
+        (
+            [
+                ("type", "Init"),
+                ("in", "in1:1"),
+                ("out", "out1:1"),
+                ("value", "0x01"),
+                ("ooo", "256"),
+            ]
+            .as_slice(),
+            "Init(1, 256)",
+        ),
+        (
+            [
+                ("type", "Init"),
+                ("in", "in1:1"),
+                ("out", "out1:1"),
+                ("ooo", "1"),
+            ]
+            .as_slice(),
+            "Init(0, 1)",
+        ),
+        (
+            [
+                ("in", "*"),
+                ("in", "in1:8"),
+                ("type", "x"),
+                ("out", "out1:8"),
+                ("type", "Buffer"),
+            ]
+            .as_slice(),
+            "Buffer(Shape { widths: [8] })",
+        ),
     ] {
         check_kind(&rt, alloc, pairs, want)?;
     }
@@ -322,17 +563,55 @@ fn kinds(rt: HostRuntime) -> Result<(), Fail> {
 fn limits_of_ports(rt: HostRuntime) -> Result<(), Fail> {
     let alloc = rt.alloc();
     for (count, fork, merge, ctrl_merge) in [
-        (64, "Fork(Shape { widths: [8] }, 64)", "Merge(Shape { widths: [8] }, 64)", "CtrlMerge(Shape { widths: [8] }, 64, 6)"),
-        (65, "Refused(BadPorts)", "Refused(BadPorts)", "Refused(BadPorts)"),
+        (
+            64,
+            "Fork(Shape { widths: [8] }, 64)",
+            "Merge(Shape { widths: [8] }, 64)",
+            "CtrlMerge(Shape { widths: [8] }, 64, 6)",
+        ),
+        (
+            65,
+            "Refused(BadPorts)",
+            "Refused(BadPorts)",
+            "Refused(BadPorts)",
+        ),
     ] {
         let ins = ports_of(alloc, "in", count, "8")?;
         let outs = ports_of(alloc, "out", count, "8")?;
-        check_kind(&rt, alloc, &[("type", "Fork"), ("in", "in1:8"), ("out", outs.as_str())], fork)?;
-        check_kind(&rt, alloc, &[("type", "Merge"), ("in", ins.as_str()), ("out", "out1:8")], merge)?;
-        check_kind(&rt, alloc, &[("type", "CntrlMerge"), ("in", ins.as_str()), ("out", "out1:8 out2?:6")], ctrl_merge)?;
+        check_kind(
+            &rt,
+            alloc,
+            &[("type", "Fork"), ("in", "in1:8"), ("out", outs.as_str())],
+            fork,
+        )?;
+        check_kind(
+            &rt,
+            alloc,
+            &[("type", "Merge"), ("in", ins.as_str()), ("out", "out1:8")],
+            merge,
+        )?;
+        check_kind(
+            &rt,
+            alloc,
+            &[
+                ("type", "CntrlMerge"),
+                ("in", ins.as_str()),
+                ("out", "out1:8 out2?:6"),
+            ],
+            ctrl_merge,
+        )?;
     }
     let ins = ports_of(alloc, "in", 64, "8")?;
-    check_refused(&rt, alloc, &[("type", "CntrlMerge"), ("in", ins.as_str()), ("out", "out1:8 out2?:5")], BadPorts)
+    check_refused(
+        &rt,
+        alloc,
+        &[
+            ("type", "CntrlMerge"),
+            ("in", ins.as_str()),
+            ("out", "out1:8 out2?:5"),
+        ],
+        BadPorts,
+    )
 }
 
 #[test]
@@ -341,13 +620,27 @@ fn limits_of_fields(rt: HostRuntime) -> Result<(), Fail> {
     for (count, is_read) in [(128, true), (129, false)] {
         let ins = fields_of(alloc, "in1", count)?;
         let outs = fields_of(alloc, "out1", count)?;
-        let found = read(alloc, &[("type", "Buffer"), ("in", ins.as_str()), ("out", outs.as_str())])?;
+        let found = read(
+            alloc,
+            &[
+                ("type", "Buffer"),
+                ("in", ins.as_str()),
+                ("out", outs.as_str()),
+            ],
+        )?;
         assert_eq!(rt; found.is_ok(), is_read, "{count}");
     }
     for (count, is_read) in [(64, true), (63, false)] {
         let ins = ports_of(alloc, "in", count, "1.1")?;
         let outs = fields_of(alloc, "out1", 128)?;
-        let found = read(alloc, &[("type", "Join"), ("in", ins.as_str()), ("out", outs.as_str())])?;
+        let found = read(
+            alloc,
+            &[
+                ("type", "Join"),
+                ("in", ins.as_str()),
+                ("out", outs.as_str()),
+            ],
+        )?;
         assert_eq!(rt; found.is_ok(), is_read, "{count}");
     }
     Ok(())
@@ -373,13 +666,72 @@ fn kept_attributes(rt: HostRuntime) -> Result<(), Fail> {
     let [word, ins, outs] = buffer;
     for (pairs, want) in [
         (buffer.as_slice(), [].as_slice()),
-        ([word, ("ooo", "4"), ins, outs, ("value", "x"), ("op", "y"), ("tags", "z")].as_slice(), [("ooo", "4"), ("value", "x"), ("op", "y"), ("tags", "z")].as_slice()),
-        ([("a", "1"), word, ("b", "2"), ins, ("a", "3"), outs].as_slice(), [("b", "2"), ("a", "3")].as_slice()),
-        ([word, ins, outs, ("", ""), ("Type", "t")].as_slice(), [("", ""), ("Type", "t")].as_slice()),
-        ([("type", "Init"), ("in", "in1:1"), ("out", "out1:1"), ("ooo", "4"), ("value", "1"), ("op", "y")].as_slice(), [("op", "y")].as_slice()),
-        ([("type", "Operator"), ("in", "in1:1"), ("out", "out1:1"), ("op", "ret_op"), ("fun", "f")].as_slice(), [("fun", "f")].as_slice()),
-        ([("type", "Constant"), ("in", "in1:1"), ("out", "out1:1"), ("value", "1"), ("ooo", "f")].as_slice(), [("ooo", "f")].as_slice()),
-        ([("type", "Tagger"), ("in", "in1:1 in2:1.1"), ("out", "out1:1.1 out2:1"), ("tags", "1"), ("value", "f")].as_slice(), [("value", "f")].as_slice()),
+        (
+            [
+                word,
+                ("ooo", "4"),
+                ins,
+                outs,
+                ("value", "x"),
+                ("op", "y"),
+                ("tags", "z"),
+            ]
+            .as_slice(),
+            [("ooo", "4"), ("value", "x"), ("op", "y"), ("tags", "z")].as_slice(),
+        ),
+        (
+            [("a", "1"), word, ("b", "2"), ins, ("a", "3"), outs].as_slice(),
+            [("b", "2"), ("a", "3")].as_slice(),
+        ),
+        (
+            [word, ins, outs, ("", ""), ("Type", "t")].as_slice(),
+            [("", ""), ("Type", "t")].as_slice(),
+        ),
+        (
+            [
+                ("type", "Init"),
+                ("in", "in1:1"),
+                ("out", "out1:1"),
+                ("ooo", "4"),
+                ("value", "1"),
+                ("op", "y"),
+            ]
+            .as_slice(),
+            [("op", "y")].as_slice(),
+        ),
+        (
+            [
+                ("type", "Operator"),
+                ("in", "in1:1"),
+                ("out", "out1:1"),
+                ("op", "ret_op"),
+                ("fun", "f"),
+            ]
+            .as_slice(),
+            [("fun", "f")].as_slice(),
+        ),
+        (
+            [
+                ("type", "Constant"),
+                ("in", "in1:1"),
+                ("out", "out1:1"),
+                ("value", "1"),
+                ("ooo", "f"),
+            ]
+            .as_slice(),
+            [("ooo", "f")].as_slice(),
+        ),
+        (
+            [
+                ("type", "Tagger"),
+                ("in", "in1:1 in2:1.1"),
+                ("out", "out1:1.1 out2:1"),
+                ("tags", "1"),
+                ("value", "f"),
+            ]
+            .as_slice(),
+            [("value", "f")].as_slice(),
+        ),
     ] {
         check_kept(&rt, alloc, pairs, want)?;
     }

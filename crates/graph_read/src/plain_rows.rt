@@ -98,8 +98,7 @@ pub(crate) fn mux_at(alloc: Global, ins: &[Shape], outs: &[Shape]) -> Result<Kin
 {
     match (ins, outs) {
         ([select, first, second], [out])
-            if is_bit(select) && is_same(first, out) && is_same(second, out) =>
-        {
+            if is_bit(select) && is_same(first, out) && is_same(second, out) => {
             Ok(Kind::Mux(copy_of(alloc, out)?))
         }
         _ => Err(Refused(BadPorts)),
@@ -111,8 +110,7 @@ pub(crate) fn branch_at(alloc: Global, ins: &[Shape], outs: &[Shape]) -> Result<
 {
     match (ins, outs) {
         ([shape, condition], [first, second])
-            if is_bit(condition) && is_same(first, shape) && is_same(second, shape) =>
-        {
+            if is_bit(condition) && is_same(first, shape) && is_same(second, shape) => {
             Ok(Kind::Branch(copy_of(alloc, shape)?))
         }
         _ => Err(Refused(BadPorts)),
@@ -132,11 +130,7 @@ pub(crate) fn merge_at(alloc: Global, ins: &[Shape], outs: &[Shape]) -> Result<K
 }
 
 /// The second output tells the inputs apart.
-pub(crate) fn ctrl_merge_at(
-    alloc: Global,
-    ins: &[Shape],
-    outs: &[Shape],
-) -> Result<Kind, NodeFault>
+pub(crate) fn ctrl_merge_at(alloc: Global, ins: &[Shape], outs: &[Shape]) -> Result<Kind, NodeFault>
     requires { length ins.now ≤ 64 }
     ensures { IsRead (ctrl_merge_at ins.now outs.now) result }
 {
