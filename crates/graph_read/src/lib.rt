@@ -4,7 +4,18 @@
 //! - `GraphRefusal`: what is refused and where; `GraphFaultKind`: why.
 #![tactic(auto)]
 
+mod attribute_rows;
+mod attributes;
 mod component;
 mod fault;
+mod kept;
+mod laws;
+mod node;
+#[cfg(test)]
+mod node_tests;
+mod plain_rows;
+mod rows;
+mod shapes;
 
 pub use fault::{GraphFault, GraphFaultKind, GraphRefusal};
+pub use laws::{numbers_read_back, rows_are_met, rows_read_back};
