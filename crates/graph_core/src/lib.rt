@@ -1,6 +1,6 @@
 //! Graphs of components: nodes with kinds and names, wires from outputs to inputs.
 //!
-//! - `Kind`: the components, with `kind_ok`, `inputs`, `outputs` and `port_shape`, which read the table of their ports.
+//! - `Kind`: the components, with `kind_ok`, `inputs`, `outputs` and `port_shape`, which read the table of their ports, and `owns`, which tells the attributes of each.
 //! - `Node`: a name, a kind, and the attributes that are kept as texts.
 //! - `Graph`: nodes by index and wires between ports. Contracts see it by its slots, and by names through
 //!   `by_names` in `specs/`: one map from names to nodes, one from input ports to the outputs that feed them.
@@ -11,6 +11,8 @@ mod copying;
 mod fields;
 mod graph;
 mod kind;
+#[cfg(test)]
+mod kind_tests;
 mod name;
 mod node;
 mod owned;

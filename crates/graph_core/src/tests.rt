@@ -210,6 +210,30 @@ fn all_ports_on_wires(rt: HostRuntime) -> Result<(), Fail> {
 }
 
 #[test]
+fn a_copy_is_the_same(rt: HostRuntime) -> Result<(), Fail> {
+    let Parts {
+        mut g,
+        entry,
+        buffer,
+        exit,
+        ..
+    } = make_parts(rt.alloc())?;
+    assert_eq!(rt; g.add_wire(port(entry, 1), port(buffer, 1)), Ok(()));
+    assert!(rt; g.remove_node(exit).is_some());
+    let copy = g.copy(rt.alloc())?;
+    assert_eq!(rt; (copy.slots(), g.slots()), (5, 5));
+    for index in 0..6 {
+        assert_eq!(rt; copy.id_at(index), g.id_at(index), "{index}");
+    }
+    assert_eq!(rt; copy.id_at(buffer.index()), Some(buffer));
+    assert_eq!(rt; copy.id_at(exit.index()), None);
+    assert_eq!(rt; copy.find(b"a2"), g.find(b"a2"));
+    assert_eq!(rt; copy.wire_into(port(buffer, 1)), Some(port(entry, 1)));
+    assert_eq!(rt; check_typed(&copy), check_typed(&g));
+    Ok(())
+}
+
+#[test]
 fn names_are_in_order(rt: HostRuntime) -> Result<(), Fail> {
     let Parts {
         mut g,

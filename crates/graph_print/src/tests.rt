@@ -3,15 +3,16 @@ ghost use Rattle.std.specs.Prelude.{◌≢◌, All, AllPairs, IfOk, IsTrue};
 ghost use Rattle.graph_core.specs.Node.{IsOwned, KeptOk, NodeOk};
 
 use crate::text_of;
-use graph_core::{AddNode, Graph, Kind, Node, NodeId, PortAt, is_name, kind_ok};
+use graph_core::{AddNode, Graph, Kind, Node, NodeId, PortAt, is_name, kind_ok, owns};
+use op_table::Op;
 use port_types::{Items, Shape, Text};
 use std::alloc::Global;
 use std::test::Fail;
 
 const EMPTY: &str = "digraph G {\n}\n";
 
-/// Nodes of each kind, of which not all ports stand on a wire.
-const EACH_KIND: &str = "digraph G {
+/// Nodes with and without wires, of which not all ports stand on one.
+const SOME_WIRES: &str = "digraph G {
   \"Z\" [type = \"Exit\", in = \"in1:4.32\"];
   \"a\" [type = \"Entry\", out = \"out1:4.32\"];
   \"a10\" [type = \"Fork\", in = \"in1:4.32\", out = \"out1:4.32 out2:4.32 out3:4.32\"];
@@ -21,6 +22,26 @@ const EACH_KIND: &str = "digraph G {
   \"a\" -> \"a10\" [from = \"out1\", to = \"in1\"];
   \"a10\" -> \"a2\" [from = \"out2\", to = \"in1\"];
   \"a10\" -> \"ü\" [from = \"out3\", to = \"in1\"];
+}
+";
+
+/// Nodes of the other kinds, with what their rows name besides ports.
+const OTHER_KINDS: &str = "digraph G {
+  \"a\" [type = \"Join\", in = \"in1:4.32 in2:8\", out = \"out1:4.32.8\"];
+  \"b\" [type = \"Split\", in = \"in1:4.32.8\", out = \"out1:4.32 out2:8\"];
+  \"c\" [type = \"Operator\", in = \"in1:8 in2:8\", out = \"out1:1\", op = \"icmp_ne_op\"];
+  \"d\" [type = \"Operator\", in = \"in1?:1 in2+:8 in3-:8\", out = \"out1:8\", op = \"select_op\"];
+  \"e\" [type = \"Constant\", in = \"in1:8\", out = \"out1:32\", value = \"0xff\"];
+  \"f\" [type = \"Constant\", in = \"in1:8\", out = \"out1:0\", value = \"0xffffffffffffffff\"];
+  \"g\" [type = \"Source\", out = \"out1:8\"];
+  \"h\" [type = \"Sink\", in = \"in1:8\"];
+  \"i\" [type = \"Mux\", in = \"in1?:1 in2:8 in3:8\", out = \"out1:8\"];
+  \"j\" [type = \"Branch\", in = \"in1:8 in2?:1\", out = \"out1+:8 out2-:8\"];
+  \"k\" [type = \"Merge\", in = \"in1:8 in2:8\", out = \"out1:8\"];
+  \"l\" [type = \"CntrlMerge\", in = \"in1:8 in2:8\", out = \"out1:8 out2?:1\"];
+  \"m\" [type = \"Init\", in = \"in1:1\", out = \"out1:1\", value = \"0x0\"];
+  \"n\" [type = \"Init\", in = \"in1:1\", out = \"out1:1\", value = \"0x1\", ooo = \"1\"];
+  \"o\" [type = \"Tagger\", in = \"in1:8 in2:8.8\", out = \"out1:8.8 out2:8\", tags = \"256\"];
 }
 ";
 
@@ -65,19 +86,12 @@ fn are_distinct(kept: &[(Text, Text)]) -> bool
     true
 }
 
-fn is_unowned(kind: &Kind, key: &[u8]) -> bool
-    ensures { IsTrue result → ¬ (IsOwned kind.now key.now) }
-{
-    let _ = kind;
-    key != b"type".as_slice() && key != b"in".as_slice() && key != b"out".as_slice()
-}
-
 /// Whether a node of this kind owns none of these attributes.
 fn are_unowned(kind: &Kind, kept: &[(Text, Text)]) -> bool
     ensures { IsTrue result → All (λ pair. ¬ (IsOwned kind.now pair.0)) kept.now }
 {
     for pair in kept {
-        if !is_unowned(kind, pair.0.bytes()) {
+        if owns(kind, pair.0.bytes()) {
             return false;
         }
     }
@@ -125,7 +139,7 @@ fn join(g: &mut Graph, source: NodeId, output: u8, target: NodeId) -> Result<(),
     Ok(g.add_wire(source, target).ok().ok_or("not joined")?)
 }
 
-fn each_kind(alloc: Global) -> Result<Graph, Fail> {
+fn some_wires(alloc: Global) -> Result<Graph, Fail> {
     let mut g = Graph::new(alloc);
     let other = add(&mut g, alloc, "ü", Kind::Exit(shape(alloc)?))?;
     let buffer = add(&mut g, alloc, "a2", Kind::Buffer(shape(alloc)?))?;
@@ -136,6 +150,45 @@ fn each_kind(alloc: Global) -> Result<Graph, Fail> {
     join(&mut g, fork, 2, buffer)?;
     join(&mut g, entry, 1, fork)?;
     join(&mut g, buffer, 1, exit)?;
+    Ok(g)
+}
+
+fn byte(alloc: Global) -> Result<Shape, Fail> {
+    Ok(Shape::new([8].to_vec(alloc)?).ok_or("no shape")?)
+}
+
+fn parts(alloc: Global) -> Result<Items<Shape>, Fail> {
+    let mut parts = Vec::new(alloc);
+    parts.push(shape(alloc)?)?;
+    parts.push(byte(alloc)?)?;
+    Ok(Items::new(parts))
+}
+
+fn operator(alloc: Global, op: Op, ins: &[u8], out: u8) -> Result<Kind, Fail> {
+    Ok(Kind::Operator(op, Items::new(ins.to_vec(alloc)?), out))
+}
+
+fn other_kinds(alloc: Global) -> Result<Graph, Fail> {
+    let mut g = Graph::new(alloc);
+    for (name, kind) in [
+        ("a", Kind::Join(parts(alloc)?)),
+        ("b", Kind::Split(parts(alloc)?)),
+        ("c", operator(alloc, Op::Ne, &[8, 8], 1)?),
+        ("d", operator(alloc, Op::Select, &[1, 8, 8], 8)?),
+        ("e", Kind::Constant(byte(alloc)?, 32, 255)),
+        ("f", Kind::Constant(byte(alloc)?, 0, u64::MAX)),
+        ("g", Kind::Source0(byte(alloc)?)),
+        ("h", Kind::Sink0(byte(alloc)?)),
+        ("i", Kind::Mux(byte(alloc)?)),
+        ("j", Kind::Branch(byte(alloc)?)),
+        ("k", Kind::Merge(byte(alloc)?, 2)),
+        ("l", Kind::CtrlMerge(byte(alloc)?, 2, 1)),
+        ("m", Kind::Init(0, 0)),
+        ("n", Kind::Init(1, 1)),
+        ("o", Kind::Tagger(byte(alloc)?, 256)),
+    ] {
+        add(&mut g, alloc, name, kind)?;
+    }
     Ok(g)
 }
 
@@ -151,7 +204,8 @@ fn texts(rt: HostRuntime) -> Result<(), Fail> {
     let alloc = rt.alloc();
     for (g, want) in [
         (Graph::new(alloc), EMPTY),
-        (each_kind(alloc)?, EACH_KIND),
+        (some_wires(alloc)?, SOME_WIRES),
+        (other_kinds(alloc)?, OTHER_KINDS),
         (with_kept(alloc)?, WITH_KEPT),
     ] {
         let text = String::from_utf8(text_of(alloc, &g)?)
