@@ -53,113 +53,141 @@ fn row(alloc: Global, kind: &Kind) -> Result<String, Fail> {
     Ok(text)
 }
 
+/// Whether the kind has these ports, and a copy of it too.
+fn has_row(alloc: Global, kind: &Kind, want: &str) -> Result<bool, Fail> {
+    let own = row(alloc, kind)?;
+    let copied = row(alloc, &kind.copy(alloc)?)?;
+    Ok(own.as_str() == want && copied.as_str() == want)
+}
+
+fn is_right(kind: &Kind) -> bool {
+    kind_ok(kind) && inputs(kind) <= 64 && outputs(kind) <= 64
+}
+
+/// The kind with this word, over tokens of two fields of 8 and 4 bits.
+fn sample(alloc: Global, word: &str) -> Result<Kind, Fail> {
+    let data = shape(alloc, &[8, 4])?;
+    Ok(match word {
+        "Entry" => Kind::Entry(data),
+        "Exit" => Kind::Exit(data),
+        "Buffer" => Kind::Buffer(data),
+        "Fork" => Kind::Fork(data, 2),
+        "Constant" => Kind::Constant(data, 5, 255),
+        "Source" => Kind::Source0(data),
+        "Sink" => Kind::Sink0(data),
+        "Mux" => Kind::Mux(data),
+        "Branch" => Kind::Branch(data),
+        "Merge" => Kind::Merge(data, 2),
+        "CntrlMerge" => Kind::CtrlMerge(data, 2, 1),
+        "Tagger" => Kind::Tagger(data, 5),
+        _ => Kind::Init(1, 256),
+    })
+}
+
 #[test]
 fn rows_of_the_table(rt: HostRuntime) -> Result<(), Fail> {
     let alloc = rt.alloc();
-    for (kind, want) in [
-        (Kind::Entry(shape(alloc, &[8, 4])?), " out1:8.4"),
-        (Kind::Exit(shape(alloc, &[0])?), " in1:0"),
-        (Kind::Buffer(shape(alloc, &[64])?), " in1:64 out1:64"),
-        (Kind::Fork(shape(alloc, &[8])?, 2), " in1:8 out1:8 out2:8"),
-        (
-            Kind::Join(shapes(alloc, &[&[8, 4], &[1]])?),
-            " in1:8.4 in2:1 out1:8.4.1",
-        ),
-        (
-            Kind::Split(shapes(alloc, &[&[8, 4], &[1]])?),
-            " in1:8.4.1 out1:8.4 out2:1",
-        ),
-        (
-            Kind::Constant(shape(alloc, &[8, 4])?, 5, 255),
-            " in1:8.4 out1:5",
-        ),
-        (Kind::Source0(shape(alloc, &[3])?), " out1:3"),
-        (Kind::Sink0(shape(alloc, &[3])?), " in1:3"),
-        (
-            Kind::Mux(shape(alloc, &[8, 4])?),
-            " in1:1 in2:8.4 in3:8.4 out1:8.4",
-        ),
-        (
-            Kind::Branch(shape(alloc, &[8, 4])?),
-            " in1:8.4 in2:1 out1:8.4 out2:8.4",
-        ),
-        (Kind::Merge(shape(alloc, &[8])?, 2), " in1:8 in2:8 out1:8"),
-        (
-            Kind::CtrlMerge(shape(alloc, &[8])?, 2, 1),
-            " in1:8 in2:8 out1:8 out2:1",
-        ),
-        (Kind::Init(1, 256), " in1:1 out1:1"),
-        (
-            Kind::Tagger(shape(alloc, &[8, 4])?, 5),
-            " in1:8.4 in2:3.8.4 out1:3.8.4 out2:8.4",
-        ),
+    for (word, want) in [
+        ("Entry", " out1:8.4"),
+        ("Exit", " in1:8.4"),
+        ("Buffer", " in1:8.4 out1:8.4"),
+        ("Fork", " in1:8.4 out1:8.4 out2:8.4"),
+        ("Constant", " in1:8.4 out1:5"),
+        ("Source", " out1:8.4"),
+        ("Sink", " in1:8.4"),
+        ("Mux", " in1:1 in2:8.4 in3:8.4 out1:8.4"),
+        ("Branch", " in1:8.4 in2:1 out1:8.4 out2:8.4"),
+        ("Merge", " in1:8.4 in2:8.4 out1:8.4"),
+        ("CntrlMerge", " in1:8.4 in2:8.4 out1:8.4 out2:1"),
+        ("Init", " in1:1 out1:1"),
+        ("Tagger", " in1:8.4 in2:3.8.4 out1:3.8.4 out2:8.4"),
     ] {
-        let text = row(alloc, &kind)?;
-        assert_eq!(rt; text.as_str(), want);
-        let copy = kind.copy(alloc)?;
-        let copied = row(alloc, &copy)?;
-        assert_eq!(rt; copied.as_str(), want);
+        let kind = sample(alloc, word)?;
+        assert!(rt; has_row(alloc, &kind, want)?, "{word}");
     }
+    Ok(())
+}
+
+#[test]
+fn rows_of_parts(rt: HostRuntime) -> Result<(), Fail> {
+    let alloc = rt.alloc();
+    let join = Kind::Join(shapes(alloc, &[&[8, 4], &[1]])?);
+    assert!(rt; has_row(alloc, &join, " in1:8.4 in2:1 out1:8.4.1")?);
+    let split = Kind::Split(shapes(alloc, &[&[8, 4], &[1]])?);
+    assert!(rt; has_row(alloc, &split, " in1:8.4.1 out1:8.4 out2:1")?);
     Ok(())
 }
 
 #[test]
 fn rows_of_operators(rt: HostRuntime) -> Result<(), Fail> {
     let alloc = rt.alloc();
-    for (kind, want) in [
+    for (op, ins, out, want) in [
+        (Op::Add, [8, 8].as_slice(), 8, " in1:8 in2:8 out1:8"),
+        (Op::Ult, [8, 8].as_slice(), 1, " in1:8 in2:8 out1:1"),
         (
-            operator(alloc, Op::Add, &[8, 8], 8)?,
-            " in1:8 in2:8 out1:8",
-        ),
-        (
-            operator(alloc, Op::Ult, &[8, 8], 1)?,
-            " in1:8 in2:8 out1:1",
-        ),
-        (
-            operator(alloc, Op::Select, &[1, 8, 8], 8)?,
+            Op::Select,
+            [1, 8, 8].as_slice(),
+            8,
             " in1:1 in2:8 in3:8 out1:8",
         ),
-        (operator(alloc, Op::Ret, &[0], 0)?, " in1:0 out1:0"),
-        (operator(alloc, Op::Add, &[8, 4], 8)?, "none"),
-        (operator(alloc, Op::Add, &[], 8)?, "none"),
+        (Op::Ret, [0].as_slice(), 0, " in1:0 out1:0"),
+        (Op::Add, [8, 4].as_slice(), 8, "none"),
+        (Op::Add, [].as_slice(), 8, "none"),
     ] {
-        let text = row(alloc, &kind)?;
-        assert_eq!(rt; text.as_str(), want);
+        let kind = operator(alloc, op, ins, out)?;
+        assert!(rt; has_row(alloc, &kind, want)?, "{op:?}");
     }
     Ok(())
 }
 
 #[test]
-fn limits_of_rows(rt: HostRuntime) -> Result<(), Fail> {
+fn limits_of_counts(rt: HostRuntime) -> Result<(), Fail> {
     let alloc = rt.alloc();
-    for (kind, want) in [
-        (Kind::Join(bits(alloc, 0)?), false),
-        (Kind::Join(bits(alloc, 64)?), true),
-        (Kind::Split(bits(alloc, 65)?), false),
-        (Kind::Join(shapes(alloc, &[&[1; 64], &[1; 64]])?), true),
-        (Kind::Split(shapes(alloc, &[&[1; 64], &[1; 65]])?), false),
-        (Kind::Constant(shape(alloc, &[8])?, 64, u64::MAX), true),
-        (Kind::Constant(shape(alloc, &[8])?, 65, 0), false),
-        (Kind::Merge(shape(alloc, &[8])?, 0), false),
-        (Kind::Merge(shape(alloc, &[8])?, 64), true),
-        (Kind::Merge(shape(alloc, &[8])?, 65), false),
-        (Kind::CtrlMerge(shape(alloc, &[8])?, 1, 0), true),
-        (Kind::CtrlMerge(shape(alloc, &[8])?, 2, 0), false),
-        (Kind::CtrlMerge(shape(alloc, &[8])?, 64, 6), true),
-        (Kind::CtrlMerge(shape(alloc, &[8])?, 33, 5), false),
-        (Kind::CtrlMerge(shape(alloc, &[8])?, 64, 64), true),
-        (Kind::CtrlMerge(shape(alloc, &[8])?, 64, 65), false),
-        (Kind::Init(2, 0), false),
-        (Kind::Init(0, 257), false),
-        (Kind::Tagger(shape(alloc, &[1; 127])?, 256), true),
-        (Kind::Tagger(shape(alloc, &[1; 128])?, 256), false),
-        (Kind::Tagger(shape(alloc, &[1])?, 0), false),
-        (Kind::Tagger(shape(alloc, &[1])?, 257), false),
+    for (count, want) in [(0, false), (1, true), (64, true), (65, false)] {
+        let join = Kind::Join(bits(alloc, count)?);
+        assert_eq!(rt; is_right(&join), want, "{count}");
+        let merge = Kind::Merge(shape(alloc, &[8])?, count as u8);
+        assert_eq!(rt; is_right(&merge), want, "{count}");
+    }
+    for (count, width, want) in [
+        (1, 0, true),
+        (2, 0, false),
+        (64, 6, true),
+        (33, 5, false),
+        (64, 64, true),
+        (64, 65, false),
     ] {
-        assert_eq!(rt; kind_ok(&kind), want, "{kind:?}");
-        if kind_ok(&kind) {
-            assert!(rt; inputs(&kind) <= 64 && outputs(&kind) <= 64);
-        }
+        let kind = Kind::CtrlMerge(shape(alloc, &[8])?, count, width);
+        assert_eq!(rt; is_right(&kind), want, "{count} {width}");
+    }
+    Ok(())
+}
+
+#[test]
+fn limits_of_fields(rt: HostRuntime) -> Result<(), Fail> {
+    let alloc = rt.alloc();
+    let whole = Kind::Join(shapes(alloc, &[&[1; 64], &[1; 64]])?);
+    assert!(rt; is_right(&whole));
+    let past = Kind::Split(shapes(alloc, &[&[1; 64], &[1; 65]])?);
+    assert!(rt; !is_right(&past));
+    for (width, want) in [(0, true), (64, true), (65, false)] {
+        let constant = Kind::Constant(shape(alloc, &[8])?, width, u64::MAX);
+        assert_eq!(rt; is_right(&constant), want, "{width}");
+    }
+    for (fields, tags, want) in [
+        (127, 256, true),
+        (128, 256, false),
+        (1, 0, false),
+        (1, 1, true),
+        (1, 257, false),
+    ] {
+        let widths = vec![in alloc; 1; fields]?;
+        let tagger = Kind::Tagger(shape(alloc, &widths)?, tags);
+        assert_eq!(rt; is_right(&tagger), want, "{fields} {tags}");
+    }
+    for (value, mark, want) in [(1, 256, true), (2, 0, false), (0, 257, false)] {
+        let init = Kind::Init(value, mark);
+        assert_eq!(rt; is_right(&init), want, "{value} {mark}");
     }
     Ok(())
 }
