@@ -134,14 +134,13 @@ pub(crate) fn ctrl_merge_at(alloc: Global, ins: &[Shape], outs: &[Shape]) -> Res
     requires { length ins.now ≤ 64 }
     ensures { IsRead (ctrl_merge_at ins.now outs.now) result }
 {
-    let (out, [width]) = (match outs {
-        [out, index] => (out, index.widths()),
-        _ => return Err(Refused(BadPorts)),
-    }) else {
+    let [out, index] = outs else {
         return Err(Refused(BadPorts));
     };
-    if ins.is_empty() || !all_are(out, ins) || !tells_apart(*width, ins.len() as u8) {
-        return Err(Refused(BadPorts));
+    match index.widths() {
+        [width] if !ins.is_empty() && all_are(out, ins) && tells_apart(*width, ins.len() as u8) => {
+            Ok(Kind::CtrlMerge(copy_of(alloc, out)?, ins.len() as u8, *width))
+        }
+        _ => Err(Refused(BadPorts)),
     }
-    Ok(Kind::CtrlMerge(copy_of(alloc, out)?, ins.len() as u8, *width))
 }
