@@ -4,3 +4,5 @@ pub mod Rows
 pub mod NodeReading
 pub mod Answers
 pub mod GraphReading
+pub mod Refusals
+pub mod GraphSteps

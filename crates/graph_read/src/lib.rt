@@ -7,13 +7,18 @@
 mod attribute_rows;
 mod attributes;
 mod component;
+mod edges;
 mod fault;
+mod graph;
 mod kept;
 mod node;
 #[cfg(test)]
 mod node_tests;
+mod nodes;
+mod open;
 mod plain_rows;
 mod rows;
 mod shapes;
 
 pub use fault::{GraphFault, GraphFaultKind, GraphRefusal};
+pub use graph::graph_of;
