@@ -1,1 +1,9 @@
-
+mod Pairs
+mod Numbers
+mod Names
+mod Lookups
+mod KeptPairs
+mod RowsMet
+mod AttributeRowsMet
+mod RowsBack
+mod NumberTexts

@@ -6,3 +6,4 @@ pub mod Answers
 pub mod GraphReading
 pub mod Refusals
 pub mod GraphSteps
+pub mod Laws

@@ -59,19 +59,31 @@ fn text_behind<'a>(front: &[u8], text: &'a [u8]) -> Option<&'a [u8]>
 fn decimal(digits: &[u8]) -> Option<u64>
     ensures { result ≡ digits_of is_ascii_digit 10 digits.now }
 {
-    if digits.is_empty() || !digits.iter().all(|byte| byte.is_ascii_digit()) {
+    if digits.is_empty() || !are_digits(digits) {
         return None;
     }
     number_of(10, digits)
 }
 
+fn are_digits(text: &[u8]) -> bool
+    ensures { result ≡ list_all is_ascii_digit text.now }
+{
+    text.iter().all(|byte| byte.is_ascii_digit())
+}
+
 fn hexadecimal(digits: &[u8]) -> Option<u64>
     ensures { result ≡ digits_of is_ascii_hexdigit 16 digits.now }
 {
-    if digits.is_empty() || !digits.iter().all(|byte| byte.is_ascii_hexdigit()) {
+    if digits.is_empty() || !are_hexadecimal_digits(digits) {
         return None;
     }
     number_of(16, digits)
+}
+
+fn are_hexadecimal_digits(text: &[u8]) -> bool
+    ensures { result ≡ list_all is_ascii_hexdigit text.now }
+{
+    text.iter().all(|byte| byte.is_ascii_hexdigit())
 }
 
 /// The number that the digits write in this base, where it is below 2^64.

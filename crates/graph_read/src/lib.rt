@@ -11,6 +11,7 @@ mod edges;
 mod fault;
 mod graph;
 mod kept;
+mod laws;
 mod node;
 #[cfg(test)]
 mod node_tests;
@@ -22,3 +23,4 @@ mod shapes;
 
 pub use fault::{GraphFault, GraphFaultKind, GraphRefusal};
 pub use graph::graph_of;
+pub use laws::{numbers_read_back, rows_are_met, rows_read_back};

@@ -18,6 +18,7 @@ use crate::component::{Component, component_of};
 use crate::fault::GraphFaultKind::{BadPorts, MemoryNode, MemoryPort, NoKind, UnknownKind};
 use crate::fault::NodeFault::{self, Refused};
 use crate::kept::kept_of;
+use crate::laws::rows_are_met;
 use crate::rows::kind_at;
 use dot_text::DocNode;
 use graph_core::{Kind, Node};
@@ -29,6 +30,8 @@ pub(crate) fn is_named(statement: &DocNode) -> bool
     ensures same { result ≡ is_name statement.now.name }
     ensures name { IsTrue result → IsName statement.now.name }
 {
+    // A proof knows that a `Text` is UTF-8 once its bytes are read.
+    let _ = statement.name.bytes();
     graph_core::is_name(&statement.name)
 }
 
@@ -80,7 +83,9 @@ fn read_component(
     }
     let ins = read_side(alloc, pairs, Side::Ins)?;
     let outs = read_side(alloc, pairs, Side::Outs)?;
-    kind_at(alloc, component, ins.as_slice(), outs.as_slice(), pairs)
+    rows_are_met();
+    let kind = kind_at(alloc, component, ins.as_slice(), outs.as_slice(), pairs)?;
+    Ok(kind)
 }
 
 /// Whether the text of the side holds `*`, as a word for a port to a memory does.
