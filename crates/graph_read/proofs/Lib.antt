@@ -7,3 +7,5 @@ mod RowsMet
 mod AttributeRowsMet
 mod RowsBack
 mod NumberTexts
+mod PortNames
+mod Joining
