@@ -1,23 +1,43 @@
-use Rattle.std.proofs.Common.{rules, ◌≡◌, ◌≤◌, length, None, Some, codes, IfOk, IfErr, MatchOption, ℕ, ◌+◌, ◌-◌, ◌*◌, ◌<◌, ◌/◌, ◌%◌, Bool, true, false, nat_eq, nat_lt, List, [], ◌∷◌, ◌++◌, slice_index_or, slice_set, bit_and, bit_or, Fits, w8, w32, w64, Bor, MutBor}
-use Rattle.std.specs.FinMap as map_of
-use Rattle.graph_core.specs.Kind.{Shape, KindOk, ports}
-use Rattle.graph_core.specs.GraphValue.{by_names, port_named, shape_at}
-use Rattle.graph_core.specs.Name.{Name}
+use Rattle.std.proofs.Common.{◌≡◌, ℕ, List, Option, None, codes, subst, ap, sym, ◌∙◌}
+use Rattle.port_types.specs.declared.side.Side.TheVariants.{Ins, Outs}
 use Rattle.graph_core.specs.Node.{body_of}
-use Rattle.graph_read.specs.Refusals.{IsRefusal}
-use Rattle.graph_read.specs.Attributes.{last_value}
-use Rattle.graph_read.specs.GraphReading.{named_in, port_there, wire_between, edge_reading, edges_reading}
-use Rattle.graph_read.specs.GraphSteps.{IsFound, IsPortThere, IsEnd, AreEnds, IsJoined}
+use Rattle.graph_read.specs.Attributes.{Pair, last_value}
+use Rattle.graph_read.specs.GraphReading.{port_there}
+use Rattle.graph_read.specs.GraphSteps.{IsFound, IsEnd}
+use Rattle.graph_read.proofs.Joining.{no_source, no_target, has_ends}
 use Rattle.graph_read.proofs.edges.ends_of.Goals as goal
 
--- src/edges.rt:81:9
 pub returns-in_default-end_at : goal.returns-in_default-end_at
-returns-in_default-end_at c = ?
+returns-in_default-end_at c =
+    let g = c.args.g.now in
+    let edge = c.args.edge.now in
+    let source : IsFound g edge.source c.in-Some.from = subst (λ (name : List ℕ). IsFound g name c.in-Some.from) c.bytes.ensures.same c.in-Some.ensures in
+    let target : IsFound g edge.target c.in-Some-node_named.to = subst (λ (name : List ℕ). IsFound g name c.in-Some-node_named.to) c.bytes-2.ensures.same c.in-Some-node_named.ensures in
+    let none = c.in_default-end_at.ensures edge.source source in
+    no_source g edge c.in-Some.from c.in-Some-node_named.to source target
+    (subst (λ (pairs : List Pair). port_there Outs edge.source (body_of source.node) (last_value (codes "from") pairs) ≡ None) c.as_slice-pairs.ensures none)
 
--- src/edges.rt:84:9
 pub returns-in_default-end_at-2 : goal.returns-in_default-end_at-2
-returns-in_default-end_at-2 c = ?
+returns-in_default-end_at-2 c =
+    let g = c.args.g.now in
+    let edge = c.args.edge.now in
+    let source : IsFound g edge.source c.in-Some.from = subst (λ (name : List ℕ). IsFound g name c.in-Some.from) c.bytes.ensures.same c.in-Some.ensures in
+    let target : IsFound g edge.target c.in-Some-node_named.to = subst (λ (name : List ℕ). IsFound g name c.in-Some-node_named.to) c.bytes-2.ensures.same c.in-Some-node_named.ensures in
+    let output = c.in-Some-end_at.ensures edge.source source in
+    let none = c.in_default-end_at-2.ensures edge.target target in
+    no_target g edge c.in-Some.from c.in-Some-node_named.to source target c.in-Some-end_at.source
+    (subst (λ (pairs : List Pair). IsEnd g c.in-Some.from Outs edge.source (body_of source.node) (last_value (codes "from") pairs) c.in-Some-end_at.source) c.as_slice-pairs.ensures output)
+    (subst (λ (pairs : List Pair). port_there Ins edge.target (body_of target.node) (last_value (codes "to") pairs) ≡ None) c.as_slice-pairs.ensures none)
 
--- src/edges.rt:70:1
 pub returns : goal.returns
-returns c = ?
+returns c =
+    let g = c.args.g.now in
+    let edge = c.args.edge.now in
+    let source : IsFound g edge.source c.in-Some.from = subst (λ (name : List ℕ). IsFound g name c.in-Some.from) c.bytes.ensures.same c.in-Some.ensures in
+    let target : IsFound g edge.target c.in-Some-node_named.to = subst (λ (name : List ℕ). IsFound g name c.in-Some-node_named.to) c.bytes-2.ensures.same c.in-Some-node_named.ensures in
+    let output = c.in-Some-end_at.ensures edge.source source in
+    let input = c.in-Some-end_at-2.ensures edge.target target in
+    has_ends g edge c.in-Some.from c.in-Some-node_named.to source target c.in-Some-end_at.source
+    (subst (λ (pairs : List Pair). IsEnd g c.in-Some.from Outs edge.source (body_of source.node) (last_value (codes "from") pairs) c.in-Some-end_at.source) c.as_slice-pairs.ensures output)
+    c.in-Some-end_at-2.target
+    (subst (λ (pairs : List Pair). IsEnd g c.in-Some-node_named.to Ins edge.target (body_of target.node) (last_value (codes "to") pairs) c.in-Some-end_at-2.target) c.as_slice-pairs.ensures input)
