@@ -9,3 +9,4 @@ mod RowsBack
 mod NumberTexts
 mod PortNames
 mod Joining
+mod NodeSteps
