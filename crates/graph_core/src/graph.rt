@@ -7,7 +7,7 @@ ghost use Rattle.graph_core.specs.Kind.{KindOk};
 ghost use Rattle.graph_core.specs.Node.{NodeOk, body_of};
 ghost use Rattle.graph_core.specs.NamedGraph.{CanWire, IsTyped, IsWire, is_wired, no_graph, with_node, with_wire, without_node};
 ghost use Rattle.graph_core.specs.GraphValue.{AreInOrder, by_names, node_at, next_id, port_named, shape_at, HasName, with_slot, with_feeder, without_slot};
-ghost use Rattle.graph_core.specs.Wiring.{wire_fault, is_taken, IsWireFault, IsFree, IsFirstOpen};
+ghost use Rattle.graph_core.specs.Wiring.{wire_fault, is_taken, IsWireFault, IsFree, IsOpen, IsFirstOpen};
 ghost use Rattle.graph_core.specs.OpenPorts.{IsClosed, IsFirstOpenAt, AreWired, IsFirstFree};
 
 use crate::copying::copy_slots;
@@ -254,6 +254,7 @@ impl Graph {
 pub fn check_typed(g: &Graph) -> Result<(), PortOpen>
     ensures typed { IsOk result ↔ IsTyped (by_names g.now) }
     ensures first { IfErr result (IsFirstOpen g.now) }
+    ensures closed { OnOk result ((p : PortOpen) → ¬ (IsOpen g.now p)) }
 
     // A port of a live node is free by index exactly where it stands on no wire by names.
     ensures free { (side : Side) (p : PortAt) → IsSome (node_at g.now p.node) → IsFree g.now side p ↔ (is_wired (by_names g.now) side (port_named g.now p) ≡ false) }

@@ -21,3 +21,8 @@ returns-in_err-check_node-clause-free c = is_free_by_names c.args.g.now (subst I
 
 pub returns-clause-free : goal.returns-clause-free
 returns-clause-free c = is_free_by_names c.args.g.now (subst IsGraph c.g.view_is c.g.invariant.0)
+
+pub returns-clause-closed : goal.returns-clause-closed
+returns-clause-closed c =
+    let slots : length c.args.g.now.slots ≡ c.len-index-end.result = ap (λ g. length g.slots) (sym c.g.view_is) ∙ omega (arith, c.g.inside.nodes.ok.0) in
+    λ p is_open. let slot = open_slot c.args.g.now p is_open in c.loop-index.invariant p (omega arith) is_open
