@@ -9,4 +9,6 @@ mod RowsBack
 mod NumberTexts
 mod PortNames
 mod Joining
+mod OpenPorts
+mod NodeLists
 mod NodeSteps

@@ -1,5 +1,5 @@
 //! The nodes of statements.
-ghost use Rattle.std.specs.Prelude.{◌≡◌, ◌≤◌, IfOk, IfErr, None, Ok, []};
+ghost use Rattle.std.specs.Prelude.{◌≡◌, ◌≤◌, IfOk, IfErr, None, Ok, [], length};
 ghost use Rattle.std.specs.FinMap as map_of;
 ghost use Rattle.graph_core.specs.GraphValue.{by_names, named_nodes};
 ghost use Rattle.graph_core.specs.NamedGraph.{IsNamed};
@@ -70,6 +70,7 @@ pub(crate) fn read_nodes(alloc: Global, statements: &[DocNode]) -> Result<Graph,
     ensures order { IfOk result (λ g. StandInOrder g.slots statements.now) }
     ensures named { IfOk result (λ g. IsNamed (by_names g)) }
     ensures few { IfOk result (λ g. map_of.len (by_names g).nodes ≤ 65536) }
+    ensures limit { IfOk result (λ _. length statements.now ≤ 65536) }
 {
     let mut g = Graph::new(alloc);
     for (index, statement) in statements.iter().enumerate() {

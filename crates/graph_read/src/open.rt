@@ -1,6 +1,7 @@
 //! The first port on no wire.
-ghost use Rattle.std.specs.Prelude.{◌≡◌, ◌≤◌, length, All, IsSome, None, IfOk, IfErr};
-ghost use Rattle.graph_core.specs.GraphValue.{by_names, named_nodes};
+ghost use Rattle.std.specs.Prelude.{◌≡◌, ◌≤◌, ◌<◌, length, IsSome, None, IfOk, IfErr};
+ghost use Rattle.graph_core.specs.GraphValue.{by_names, named_nodes, node_at};
+ghost use Rattle.graph_core.specs.Place.{index_of};
 ghost use Rattle.graph_core.specs.NamedGraph.{IsTyped};
 ghost use Rattle.graph_read.specs.GraphReading.{first_open};
 ghost use Rattle.graph_read.specs.Refusals.{IsFoundRefusal};
@@ -8,13 +9,13 @@ ghost use Rattle.graph_read.specs.Refusals.{IsFoundRefusal};
 use crate::fault::GraphFault;
 use crate::fault::GraphFaultKind::PortOpen;
 use crate::fault::GraphRefusal;
-use graph_core::{Graph, check_typed};
+use graph_core::{Graph, NodeId, check_typed};
 use std::alloc::Global;
 
 /// Whether each port of a graph without gaps is on a wire. If not, the error is the first that is on none, in the order of
 /// the nodes, inputs before outputs, by number, with the place of its node, counted from 1.
 pub(crate) fn check_open(alloc: Global, g: &Graph) -> Result<(), GraphFault>
-    requires live { All IsSome g.now.slots }
+    requires live { (id : NodeId) → index_of id < length g.now.slots → IsSome (node_at g.now id) }
     requires few { length g.now.slots ≤ 65536 }
     ensures ok { IfOk result (λ _. first_open (by_names g.now) 1 (named_nodes g.now.slots) ≡ None) }
     ensures refused { IfErr result (IsFoundRefusal (first_open (by_names g.now) 1 (named_nodes g.now.slots))) }
