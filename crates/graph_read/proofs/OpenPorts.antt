@@ -68,7 +68,7 @@ nothing_open h place (node ∷ nodes) closed =
     ap (λ (found : Option (Side × ℕ)). option_or (open_refusal place node.0 found) (first_open h (place + 1) nodes)) (closed zero node refl)
     ∙ nothing_open h (place + 1) nodes (λ i other at. closed (suc i) other at)
 
-abbrev opened : ℕ → Name → Side × ℕ → GraphRefusal
+abbrev pub opened : ℕ → Name → Side × ℕ → GraphRefusal
 opened place name port = record { kind = kind.PortOpen; place = place; name = name; port_open = Some port }
 
 none_got : {A : Type 0} (x : A) → ◌≡◌ {A = Option A} None (Some x) → ⊥
@@ -173,8 +173,14 @@ module _ (g : GraphValue) (live : AreLive g.slots) (free_is : (side : Side) (p :
   none_open closed = nothing_open (by_names g) 1 (named_nodes g.slots) (λ i entry at. closed_here i entry at (λ side number. closed (open_at i side number)))
 
   pub one_open : (p : PortOpen) (node : Node) → node_at g p.node ≡ Some node → IsFirstOpen g p → first_open (by_names g) 1 (named_nodes g.slots) ≡ Some (opened (1 + index_of p.node) node.name (p.side, p.port))
-  one_open p node is_live open =
+  one_open p node is_live is_first =
       let i = index_of p.node in
       first_opened (by_names g) i 1 (named_nodes g.slots) (named node) (p.side, p.port) (node_got g.slots live i ∙ ap (option_map named) is_live)
-      (λ j entry before at. closed_here j entry at (λ side number is_open. open.first (open_at j side number) is_open (inl before)))
-      (first_here i node is_live p.side p.port open.is_open (λ side k before is_open. open.first (open_at i side k) is_open (inr (refl, before))))
+      (λ j entry before at. closed_here j entry at (λ side number is_open. is_first.first (open_at j side number) is_open (inl before)))
+      (first_here i node is_live p.side p.port is_first.is_open (λ side k before is_open. is_first.first (open_at i side k) is_open (inr (refl, before))))
+
+-- a live node stands in a slot
+pub slot_within : (slots : List (Option Node)) (i : ℕ) (node : Node) → flat (slice_get slots i) ≡ Some node → i < length slots
+slot_within [] i node live = absurd (none_got node live)
+slot_within (slot ∷ slots) zero node live = omega arith
+slot_within (slot ∷ slots) (suc i) node live = let rest = slot_within slots i node live in omega (arith, rest)
