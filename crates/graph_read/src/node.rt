@@ -22,7 +22,7 @@ use crate::laws::rows_are_met;
 use crate::rows::kind_at;
 use dot_text::DocNode;
 use graph_core::{Kind, Node};
-use port_types::{Items, PortFault, Port, Shape, Side, Text, read_ports, reads_ports};
+use port_types::{Items, Port, PortFault, Shape, Side, Text, read_ports, reads_ports};
 use std::alloc::Global;
 
 /// Whether a node may have the name of the statement: 1 to 255 bytes, none of them below 33, a double quote or a backslash.
@@ -99,11 +99,7 @@ fn has_star(pairs: &[(Text, Text)], side: Side) -> bool
 }
 
 /// The shapes of the ports of a side, none where there is no text.
-fn read_side(
-    alloc: Global,
-    pairs: &[(Text, Text)],
-    side: Side,
-) -> Result<Items<Shape>, NodeFault>
+fn read_side(alloc: Global, pairs: &[(Text, Text)], side: Side) -> Result<Items<Shape>, NodeFault>
     ensures reading { IsRead (side_reading side pairs.now) result }
     ensures few { IfOk result (λ shapes. length shapes ≤ 64) }
     ensures shapes { IfOk result (λ shapes. All IsShape shapes) }
