@@ -1,5 +1,5 @@
 -- A graph without wires gains the node of the next statement.
-use Rattle.std.proofs.Common.{◌≡◌, ◌≢◌, inl, inr, ℕ, ◌+◌, ◌≤◌, ◌<◌, Bool, true, false, cond, List, [], ◌∷◌, ◌++◌, length, map, get_or, take, drop, Option, Some, None, Result, Ok, refl, sym, ap, subst, ◌∙◌, arith}
+use Rattle.std.proofs.Common.{◌≡◌, ◌≢◌, inl, inr, ℕ, zero, suc, ◌+◌, ◌≤◌, ◌<◌, Bool, true, false, cond, List, [], ◌∷◌, ◌++◌, length, map, get_or, take, drop, slice_get, Option, Some, None, IsSome, Ok, refl, sym, ap, subst, ◌∙◌, arith}
 use Rattle.std.specs.Option.{option_map}
 use Rattle.std.specs.Ordering.{eq_by_cmp}
 use Rattle.std.specs.Cmp.{Equal-is}
@@ -11,7 +11,7 @@ use Rattle.graph_core.specs.declared.node.Node.{Node}
 use Rattle.graph_core.specs.Name.{Name, name_cmp, IsName}
 use Rattle.graph_core.specs.Node.{NodeOk, Body, body_of}
 use Rattle.graph_core.specs.NamedGraph.{NamedGraph, IsNamed, no_graph, with_node}
-use Rattle.graph_core.specs.GraphValue.{GraphValue, by_names, named, named_nodes, with_slot}
+use Rattle.graph_core.specs.GraphValue.{GraphValue, flat, by_names, named, named_nodes}
 use Rattle.graph_read.specs.NodeReading.{NodeReading, node_reading}
 use Rattle.graph_read.specs.GraphReading.{NodesReading, then_read, names_of, nodes_reading}
 use Rattle.graph_read.specs.GraphSteps.{StandInOrder, HasGained}
@@ -92,3 +92,15 @@ module _ (old new : GraphValue) (statements : List DocNode) (i : ℕ) (statement
   pub few_more : map_of.len (by_names old).nodes ≤ i → map_of.len (by_names new).nodes ≤ i + 1
   few_more few =
       subst (λ (g : NamedGraph). map_of.len g.nodes ≤ i + 1) (sym gained.by_name) (len_more (by_names old) statement.name (body_of gained.node) i few)
+
+-- Nodes that stand in order leave no gap
+
+no_value : {A : Type 0} (x : A) → ◌≡◌ {A = Option A} None (Some x) → ⊥
+no_value x e = absurd (cc)
+
+pub live_in_order : (slots : List (Option Node)) (statements : List DocNode) → StandInOrder slots statements → (i : ℕ) → i < length slots → IsSome (flat (slice_get slots i))
+live_in_order [] statements order i within = absurd (omega arith)
+live_in_order (slot ∷ slots) [] order i within = let none = ap (λ (names : List (Option Name)). length names) order in absurd (omega (arith, none))
+live_in_order (Some node ∷ slots) (statement ∷ statements) order zero within = refl
+live_in_order (None ∷ slots) (statement ∷ statements) order zero within = absurd (no_value statement.name (ap (λ (names : List (Option Name)). flat (slice_get names zero)) order))
+live_in_order (slot ∷ slots) (statement ∷ statements) order (suc i) within = live_in_order slots statements (ap (λ (names : List (Option Name)). drop (suc zero) names) order) i (omega (arith, within))
