@@ -10,6 +10,8 @@ mod component;
 mod edges;
 mod fault;
 mod graph;
+#[cfg(test)]
+mod graph_tests;
 mod kept;
 mod laws;
 mod node;
