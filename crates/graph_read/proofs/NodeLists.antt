@@ -1,5 +1,5 @@
 -- A graph without wires gains the node of the next statement.
-use Rattle.std.proofs.Common.{◌≡◌, ◌≢◌, inl, inr, ℕ, zero, suc, ◌+◌, ◌≤◌, ◌<◌, Bool, true, false, cond, List, [], ◌∷◌, ◌++◌, length, map, get_or, take, drop, slice_get, Option, Some, None, IsSome, Ok, refl, sym, ap, subst, ◌∙◌, arith}
+use Rattle.std.proofs.Common.{◌≡◌, inl, inr, ℕ, zero, suc, ◌+◌, ◌≤◌, ◌<◌, Bool, true, false, cond, List, [], ◌∷◌, ◌++◌, length, map, get_or, take, drop, slice_get, Option, Some, None, IsSome, Ok, refl, sym, ap, subst, ◌∙◌, arith}
 use Rattle.std.specs.Option.{option_map}
 use Rattle.std.specs.Ordering.{eq_by_cmp}
 use Rattle.std.specs.Cmp.{Equal-is}
@@ -9,11 +9,11 @@ use Rattle.std.proofs.lemmas.List.{map-append, drop_more, take_more}
 use Rattle.dot_text.specs.declared.doc.DocNode.{DocNode}
 use Rattle.graph_core.specs.declared.node.Node.{Node}
 use Rattle.graph_core.specs.Name.{Name, name_cmp, IsName}
-use Rattle.graph_core.specs.Node.{NodeOk, Body, body_of}
+use Rattle.graph_core.specs.Node.{Body, body_of}
 use Rattle.graph_core.specs.NamedGraph.{NamedGraph, IsNamed, no_graph, with_node}
 use Rattle.graph_core.specs.GraphValue.{GraphValue, flat, by_names, named, named_nodes}
 use Rattle.graph_read.specs.NodeReading.{NodeReading, node_reading}
-use Rattle.graph_read.specs.GraphReading.{NodesReading, then_read, names_of, nodes_reading}
+use Rattle.graph_read.specs.GraphReading.{then_read, names_of, nodes_reading}
 use Rattle.graph_read.specs.GraphSteps.{StandInOrder, HasGained}
 use Rattle.graph_read.proofs.Lookups.{name_total, name_same, name_cases}
 

@@ -1,5 +1,5 @@
 -- The reading of a node behind others: its first refusals, in order.
-use Rattle.std.proofs.Common.{◌≡◌, ℕ, ◌≤◌, ◌<◌, Bool, true, false, cond, not, ◌||◌, List, [], ◌∷◌, Option, Some, None, is_some, is_eq, Result, Ok, Err, refl, sym, ap, ◌∙◌, arith, if◌then◌else◌}
+use Rattle.std.proofs.Common.{◌≡◌, ℕ, ◌≤◌, ◌<◌, Bool, true, false, cond, ◌||◌, List, [], ◌∷◌, Option, Some, is_some, Ok, Err, refl, sym, ap, ◌∙◌, arith, if◌then◌else◌}
 use Rattle.std.specs.Prelude.{bytes_eq, nat_le}
 use Rattle.std.specs.List.{list_any}
 use Rattle.std.specs.FinMap as map
@@ -7,11 +7,9 @@ use Rattle.std.specs.Ordering.{eq_by_cmp}
 use Rattle.std.proofs.lemmas.Bool.{le-leb, leb-true, false_from_ne_true}
 use Rattle.std.proofs.lemmas.Map.Text.{is_eq-slice_cmp}
 use Rattle.dot_text.specs.declared.doc.DocNode.{DocNode}
-use Rattle.graph_core.specs.declared.node.Node.{Node}
 use Rattle.graph_core.specs.Name.{Name, name_cmp}
 use Rattle.graph_core.specs.Node.{Body}
 use Rattle.graph_read.specs.declared.fault.GraphFaultKind.TheVariants.{NameTaken, TooMany}
-use Rattle.graph_read.specs.declared.fault.GraphFaultKind.{GraphFaultKind}
 use Rattle.graph_read.specs.declared.fault.NodeFault.{NodeFault}
 use Rattle.graph_read.specs.declared.fault.NodeFault.TheVariants.{Refused, NoMemory}
 use Rattle.graph_read.specs.Answers.{IsNodeRead}

@@ -1,19 +1,18 @@
 -- The first port on no wire, by index and by names.
-use Rattle.std.proofs.Common.{◌≡◌, ◌↔◌, inl, inr, ℕ, zero, suc, ◌+◌, ◌<◌, ◌≤◌, Bool, true, false, List, [], ◌∷◌, length, Option, Some, None, IsSome, is_some, slice_get, refl, sym, ap, subst, ◌∙◌, arith, if◌then◌else◌}
+use Rattle.std.proofs.Common.{◌≡◌, ◌↔◌, inl, inr, ℕ, zero, suc, ◌+◌, ◌<◌, ◌≤◌, Bool, true, false, List, [], ◌∷◌, length, Option, Some, None, IsSome, is_some, slice_get, refl, sym, ap, ◌∙◌, arith, if◌then◌else◌}
 use Rattle.std.specs.Option.{option_or, option_map}
 use Rattle.std.proofs.lemmas.Bool.{cases_Bool, true≢false}
 use Rattle.port_types.specs.declared.side.Side.{Side}
 use Rattle.port_types.specs.declared.side.Side.TheVariants.{Ins, Outs}
 use Rattle.graph_core.specs.declared.node.Node.{Node}
-use Rattle.graph_core.specs.declared.place.NodeId.{NodeId}
 use Rattle.graph_core.specs.declared.place.PortAt.{PortAt}
 use Rattle.graph_core.specs.declared.graph.PortOpen.{PortOpen}
 use Rattle.graph_core.specs.Place.{index_of, id_of}
-use Rattle.graph_core.specs.Kind.{Shape, ins, outs, ports}
+use Rattle.graph_core.specs.Kind.{Shape, outs, ports}
 use Rattle.graph_core.specs.Name.{Name, Port, port_get}
-use Rattle.graph_core.specs.Node.{Body, body_of}
+use Rattle.graph_core.specs.Node.{Body}
 use Rattle.graph_core.specs.NamedGraph.{NamedGraph, is_wired}
-use Rattle.graph_core.specs.GraphValue.{GraphValue, node_at, flat, shape_of, shape_at, name_of, named, named_nodes, by_names, port_named}
+use Rattle.graph_core.specs.GraphValue.{GraphValue, node_at, flat, shape_of, name_of, named, named_nodes, by_names, port_named}
 use Rattle.graph_core.specs.Wiring.{IsFree, IsOpen, IsFirstOpen, ComesBefore}
 use Rattle.graph_read.specs.declared.fault.GraphRefusal.{GraphRefusal}
 use Rattle.graph_read.specs.declared.fault.GraphFaultKind.TheVariants as kind
@@ -150,8 +149,8 @@ module _ (g : GraphValue) (live : AreLive g.slots) (free_is : (side : Side) (p :
         let within = port_within (ports node.kind side) (suc k) (ap is_some (ap (λ (o : Option Node). shape_of o side (suc k)) (sym is_live)) ∙ is_open.there) in
         let at : 1 + k ≡ suc k = omega arith in
         let free : is_wired (by_names g) side (port_of node.name (1 + k)) ≡ false =
-            ap (λ (n : ℕ). is_wired (by_names g) side (port_of node.name n)) at ∙ ap (is_wired (by_names g) side) (sym (name_here (suc k)))
-            ∙ (free_is side (record { node = id_of i; port = suc k }) live_here).0 is_open.free in
+        ap (λ (n : ℕ). is_wired (by_names g) side (port_of node.name n)) at ∙ ap (is_wired (by_names g) side) (sym (name_here (suc k)))
+        ∙ (free_is side (record { node = id_of i; port = suc k }) live_here).0 is_open.free in
         found_free (by_names g) side node.name k 1 (ports node.kind side) (omega (arith, within.1))
         (λ j lower upper. wired_unless_open side j lower (omega (arith, upper, within.1)) (first j (omega (arith, upper)))) free
         ∙ ap (λ (n : ℕ). Some n) at

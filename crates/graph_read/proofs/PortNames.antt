@@ -34,9 +34,9 @@ named side text zero number (shape ∷ shapes) within fits is =
 named side text (suc i) number (shape ∷ shapes) within fits is =
     let fits_first : number < 2 ^ 64 = omega (arith, fits) in
     let other : bytes_eq text (port_name side number) ≡ false =
-        false_from_ne_true (bytes_eq text (port_name side number)) (λ test.
-        let same : number + suc i ≡ number = one_number side (number + suc i) number fits fits_first (sym is ∙ (bytes_eq-Decides text (port_name side number)).0 test) in
-        absurd (omega (arith, same))) in
+    false_from_ne_true (bytes_eq text (port_name side number)) (λ test.
+    let same : number + suc i ≡ number = one_number side (number + suc i) number fits fits_first (sym is ∙ (bytes_eq-Decides text (port_name side number)).0 test) in
+    absurd (omega (arith, same))) in
     let at : number + suc i ≡ number + 1 + i = omega arith in
     let rest = named side text i (number + 1) shapes (omega (arith, within)) (omega (arith, fits)) (is ∙ ap (port_name side) at) in
     (rest.0, rest.1, ap (λ (t : Bool). if t then Some (number, shape) else named_in side text (number + 1) shapes) other ∙ rest.2 ∙ ap (λ (n : ℕ). Some (n, rest.0)) (sym at))

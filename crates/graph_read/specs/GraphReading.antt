@@ -9,7 +9,7 @@ use Rattle.dot_text.specs.declared.doc.Doc.{Doc}
 use Rattle.dot_text.specs.declared.doc.DocNode.{DocNode}
 use Rattle.dot_text.specs.declared.doc.DocEdge.{DocEdge}
 use Rattle.graph_core.specs.Kind.{Shape, ins, outs, ports}
-use Rattle.graph_core.specs.Name.{Name, Port, port_get}
+use Rattle.graph_core.specs.Name.{Name, Port}
 use Rattle.graph_core.specs.Node.{Body}
 use Rattle.graph_core.specs.NamedGraph.{NamedGraph, is_wired, with_wire}
 use Rattle.graph_read.specs.declared.fault.GraphFaultKind.{GraphFaultKind}

@@ -50,13 +50,7 @@ fn port_number(kind: &Kind, side: Side, text: &[u8]) -> Option<u8>
 }
 
 /// The port of a node that the last pair of this key names.
-fn end_at(
-    g: &Graph,
-    id: NodeId,
-    side: Side,
-    key: &[u8],
-    pairs: &[(Text, Text)],
-) -> Option<PortAt>
+fn end_at(g: &Graph, id: NodeId, side: Side, key: &[u8], pairs: &[(Text, Text)]) -> Option<PortAt>
     ensures { (name : Name) (found : IsFound g.now name id)
         → MatchOption result (port_there side name (body_of found.node) (last_value key.now pairs.now) ≡ None) (IsEnd g.now id side name (body_of found.node) (last_value key.now pairs.now)) }
 {

@@ -22,12 +22,7 @@ use std::alloc::Global;
 const MAX_NODES: usize = 65_536;
 
 /// The node of the statement at this place, counted from 1, behind those of the graph.
-fn new_node(
-    alloc: Global,
-    g: &Graph,
-    statement: &DocNode,
-    place: usize,
-) -> Result<Node, NodeFault>
+fn new_node(alloc: Global, g: &Graph, statement: &DocNode, place: usize) -> Result<Node, NodeFault>
     ensures read { IsNodeRead statement.now.name (node_reading (names_of (named_nodes g.now.slots)) place statement.now) result }
     ensures few { IfOk result (λ _. place ≤ 65536) }
     ensures free { IfOk result (λ node. map_of.get (by_names g.now).nodes node.name ≡ None) }

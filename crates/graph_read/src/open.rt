@@ -6,9 +6,8 @@ ghost use Rattle.graph_core.specs.NamedGraph.{IsTyped};
 ghost use Rattle.graph_read.specs.GraphReading.{first_open};
 ghost use Rattle.graph_read.specs.Refusals.{IsFoundRefusal};
 
-use crate::fault::GraphFault;
 use crate::fault::GraphFaultKind::PortOpen;
-use crate::fault::GraphRefusal;
+use crate::fault::{GraphFault, GraphRefusal};
 use graph_core::{Graph, NodeId, check_typed};
 use std::alloc::Global;
 

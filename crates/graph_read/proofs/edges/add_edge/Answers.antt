@@ -1,4 +1,4 @@
-use Rattle.std.proofs.Common.{◌≡◌, Result, sym, subst}
+use Rattle.std.proofs.Common.{Result, sym, subst}
 use Rattle.graph_core.specs.GraphValue.{by_names}
 use Rattle.graph_read.specs.declared.fault.GraphFaultKind.{GraphFaultKind}
 use Rattle.graph_read.specs.GraphReading.{NamedWire}

@@ -1,4 +1,4 @@
-use Rattle.std.proofs.Common.{◌≡◌, ap, ◌∙◌}
+use Rattle.std.proofs.Common.{ap, ◌∙◌}
 use Rattle.port_types.specs.declared.side.Side.TheVariants.{Ins, Outs}
 use Rattle.graph_read.proofs.Joining.{node_shaped, as_read, wire_at, same_fault}
 use Rattle.graph_read.proofs.edges.join.Goals as goal

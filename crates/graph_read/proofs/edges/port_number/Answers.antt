@@ -1,4 +1,4 @@
-use Rattle.std.proofs.Common.{◌≡◌, ◌≤◌, length, sym, ap, ◌∙◌, arith}
+use Rattle.std.proofs.Common.{◌≤◌, length, arith}
 use Rattle.graph_core.specs.Kind.{ports}
 use Rattle.graph_read.proofs.PortNames.{is_port_there, other_port, no_port}
 use Rattle.graph_read.proofs.edges.port_number.Goals as goal

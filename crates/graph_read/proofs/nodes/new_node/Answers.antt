@@ -1,8 +1,7 @@
-use Rattle.std.proofs.Common.{rules, ◌≡◌, ◌≤◌, ◌<◌, true, false, Ok, Err, sym, ap, subst, ◌∙◌, arith}
+use Rattle.std.proofs.Common.{rules, ◌≡◌, true, Err, sym, ap, subst, ◌∙◌}
 use Rattle.std.specs.FinMap as map_of
 use Rattle.graph_core.specs.GraphValue.{by_names, named_nodes}
 use Rattle.graph_core.specs.Node.{body_of}
-use Rattle.graph_core.specs.Name.{Name}
 use Rattle.graph_read.specs.Answers.{IsNodeRead}
 use Rattle.graph_read.specs.NodeReading.{NodeReading, is_name, body_reading, within_limit}
 use Rattle.graph_read.proofs.NodeSteps.{taken_name, new_name, refused_within, too_many, not_too_many}

@@ -13,5 +13,5 @@ invariant-loop-index l = record {
   order : StandInOrder l.g.slots (take l.index l.statements);
   named : IsNamed (by_names l.g);
   few : map_of.len (by_names l.g).nodes ≤ l.index;
-  limit : l.index ≤ 65536
+  limit : l.index ≤ 65536;
 }

@@ -1,6 +1,5 @@
-use Rattle.std.proofs.Common.{◌≡◌, ◌+◌, ℕ, Some, sym, ap, ◌∙◌, arith}
+use Rattle.std.proofs.Common.{◌≡◌, ◌+◌, Some, sym, ap, ◌∙◌, arith}
 use Rattle.std.specs.Option.{option_copied}
-use Rattle.graph_core.specs.Name.{Name}
 use Rattle.graph_core.specs.GraphValue.{node_at}
 use Rattle.graph_read.proofs.OpenPorts.{opened, none_open, one_open, slot_within}
 use Rattle.graph_read.proofs.open.check_open.Goals as goal
