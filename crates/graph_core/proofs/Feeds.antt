@@ -12,7 +12,7 @@ use Rattle.graph_core.proofs.Options.{none_some}
 use Rattle.graph_core.proofs.Maps.{each_found}
 use Rattle.graph_core.proofs.Orders.{place_total, place_same}
 
-any_where : {X : Type 0} (test : X → Bool) (P : X → Type 0) (xs : List X) → AllByRecursion P xs → list_any test xs ≡ true → (x : X) × (test x ≡ true) × P x
+pub any_where : {X : Type 0} (test : X → Bool) (P : X → Type 0) (xs : List X) → AllByRecursion P xs → list_any test xs ≡ true → (x : X) × (test x ≡ true) × P x
 any_where test P [] each any = absurd (true≢false (sym any))
 any_where test P (x ∷ xs) each any =
     elim (cases_Bool (test x)) [
@@ -20,7 +20,7 @@ any_where test P (x ∷ xs) each any =
       | inr fails ↦ any_where test P xs each.1 (ap (λ b. b || list_any test xs) (sym fails) ∙ any)
     ]
 
-any_from_found : {K X : Type 0} (R : K → K → Ordering) (test : K × X → Bool) (k : K) (v : X) → ((q : K) → test (q, v) ≡ true) → (es : List (K × X)) → map.find R k es ≡ Some v → list_any test es ≡ true
+pub any_from_found : {K X : Type 0} (R : K → K → Ordering) (test : K × X → Bool) (k : K) (v : X) → ((q : K) → test (q, v) ≡ true) → (es : List (K × X)) → map.find R k es ≡ Some v → list_any test es ≡ true
 any_from_found R test k v passes [] found = absurd (none_some v refl found)
 any_from_found R test k v passes (e ∷ es) found =
     elim (cases_Bool (eq_by_cmp R k e.0)) [

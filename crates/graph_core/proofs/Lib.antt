@@ -19,4 +19,5 @@ pub mod InOrder
 pub mod ByNames
 pub mod ByNamesAfter
 pub mod TypedByNames
+pub mod WiredByNames
 pub mod CanWireByNames

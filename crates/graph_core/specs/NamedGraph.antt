@@ -1,6 +1,9 @@
 -- A graph by names: a set of nodes and a set of wires.
-use Rattle.std.specs.Prelude.{◌≡◌, ◌≢◌, Bool, false, not, ◌||◌, Option, Some, None, bytes_eq}
+use Rattle.std.specs.Prelude.{◌≡◌, ◌≢◌, Bool, false, not, ◌&&◌, ◌||◌, ◌==◌, Option, Some, None, is_some, bytes_eq}
+use Rattle.std.specs.List.{list_any}
 use Rattle.std.specs.FinMap as map
+use Rattle.port_types.specs.declared.side.Side.{Side}
+use Rattle.port_types.specs.declared.side.Side.TheVariants.{Ins, Outs}
 use Rattle.graph_core.specs.Name.{Name, Port, name_cmp, port_cmp, port_get, IsName}
 use Rattle.graph_core.specs.Kind.{Shape, ins, outs, KindOk}
 use Rattle.graph_core.specs.Node.{Body}
@@ -19,6 +22,11 @@ with_node g name body = record g { nodes = map.insert g.nodes name body }
 -- with a wire from the output source to the input target
 abbrev pub with_wire : NamedGraph → Port → Port → NamedGraph
 with_wire g source target = record g { feeders = map.insert g.feeders target source }
+
+-- the port of this side stands on a wire
+abbrev pub is_wired : NamedGraph → Side → Port → Bool
+is_wired g Ins port = is_some (map.get g.feeders port)
+is_wired g Outs port = list_any (λ wire. bytes_eq wire.1.node port.node && (wire.1.port == port.port)) (map.entries g.feeders)
 
 -- the port is one of the node of this name
 abbrev pub is_of : Name → Option Port → Bool

@@ -1,13 +1,13 @@
-ghost use Rattle.std.specs.Prelude.{◌≡◌, ◌≢◌, ◌↔◌, ◌⊎◌, ◌<◌, [], ◌∷◌, length, map, Some, None, Ok, Err, IsTrue, IsSome, IsNone, IsOk, IfSome, IfNone, IfOk, IfErr, OnOk, OnErr, OnSome, IsOkUnless, is_some, MatchOption, MatchResult};
+ghost use Rattle.std.specs.Prelude.{◌≡◌, ◌≢◌, ◌↔◌, ◌⊎◌, ◌<◌, ◌||◌, false, [], ◌∷◌, length, map, Some, None, Ok, Err, IsTrue, IsSome, IsNone, IsOk, IfSome, IfNone, IfOk, IfErr, OnOk, OnErr, OnSome, IsOkUnless, is_some, MatchOption, MatchResult};
 ghost use Rattle.std.specs.Option.{option_copied, option_map};
 ghost use Rattle.std.specs.FinMap as map_of;
 ghost use Rattle.graph_core.specs.Name.{IsName, Port};
 ghost use Rattle.graph_core.specs.Place.{index_of, id_of};
 ghost use Rattle.graph_core.specs.Kind.{KindOk};
 ghost use Rattle.graph_core.specs.Node.{NodeOk, body_of};
-ghost use Rattle.graph_core.specs.NamedGraph.{CanWire, IsTyped, IsWire, no_graph, with_node, with_wire, without_node};
+ghost use Rattle.graph_core.specs.NamedGraph.{CanWire, IsTyped, IsWire, is_wired, no_graph, with_node, with_wire, without_node};
 ghost use Rattle.graph_core.specs.GraphValue.{AreInOrder, by_names, node_at, next_id, port_named, shape_at, HasName, with_slot, with_feeder, without_slot};
-ghost use Rattle.graph_core.specs.Wiring.{wire_fault, IsWireFault, IsFree, IsFirstOpen};
+ghost use Rattle.graph_core.specs.Wiring.{wire_fault, is_taken, IsWireFault, IsFree, IsOpen, IsFirstOpen};
 ghost use Rattle.graph_core.specs.OpenPorts.{IsClosed, IsFirstOpenAt, AreWired, IsFirstFree};
 
 use crate::copying::copy_slots;
@@ -110,10 +110,12 @@ impl Graph {
         ensures names { OnOk result (by_names self.new ≡ with_wire (by_names self.old) (port_named self.old source) (port_named self.old target)) }
         ensures fault { MatchResult result (λ _. wire_fault self.old source target ≡ None) (IsWireFault (wire_fault self.old source target)) }
 
-        // By names: the wire could be added where it was, and is added where it can be.
+        // By names: the wire could be added where it was, is added where it can be, and a port stands on a wire where it does.
         ensures could { OnOk result (CanWire (by_names self.old) (port_named self.old source) (port_named self.old target)) }
         ensures can { IsSome (node_at self.old source.node) → IsSome (node_at self.old target.node)
             → CanWire (by_names self.old) (port_named self.old source) (port_named self.old target) → IsOkUnless result AddWire.NoMemory }
+        ensures taken { IsSome (node_at self.old source.node) → IsSome (node_at self.old target.node)
+            → is_taken self.old source target ≡ (is_wired (by_names self.old) Side.Ins (port_named self.old target) || is_wired (by_names self.old) Side.Outs (port_named self.old source)) }
 
         ensures err { OnErr result (self.new ≡ self.old) }
     {
@@ -250,6 +252,10 @@ impl Graph {
 pub fn check_typed(g: &Graph) -> Result<(), PortOpen>
     ensures typed { IsOk result ↔ IsTyped (by_names g.now) }
     ensures first { IfErr result (IsFirstOpen g.now) }
+    ensures closed { OnOk result ((p : PortOpen) → ¬ (IsOpen g.now p)) }
+
+    // A port of a live node is free by index exactly where it stands on no wire by names.
+    ensures free { (side : Side) (p : PortAt) → IsSome (node_at g.now p.node) → IsFree g.now side p ↔ (is_wired (by_names g.now) side (port_named g.now p) ≡ false) }
 {
     for index in 0..g.nodes.len() {
         check_node(g, NodeId::new(index))?;

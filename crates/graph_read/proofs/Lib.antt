@@ -7,3 +7,8 @@ mod RowsMet
 mod AttributeRowsMet
 mod RowsBack
 mod NumberTexts
+mod PortNames
+mod Joining
+mod OpenPorts
+mod NodeLists
+mod NodeSteps

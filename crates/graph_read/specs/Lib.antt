@@ -4,4 +4,6 @@ pub mod Rows
 pub mod NodeReading
 pub mod Answers
 pub mod GraphReading
+pub mod Refusals
+pub mod GraphSteps
 pub mod Laws

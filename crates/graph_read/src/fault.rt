@@ -1,8 +1,9 @@
 ghost use Rattle.std.specs.Prelude.{◌≡◌};
+ghost use Rattle.graph_read.specs.GraphSteps.{IsFaultAt};
 ghost use Rattle.graph_read.specs.declared.fault.NodeFault.TheVariants.{NoMemory};
 
 use port_types::{NoMemory, Side, Text};
-use std::alloc::{AllocError, AllocFailed};
+use std::alloc::{AllocError, AllocFailed, Global};
 
 /// Why a document is no graph. For each node in the order of the file the first that holds counts, up to `TooMany`; then for each edge, up to `ShapeDiffers`; then `PortOpen`.
 #[derive(Clone, Copy, Debug, PartialEq, Eq)]
@@ -62,7 +63,7 @@ pub enum GraphFault {
     NoMemory,
 }
 
-/// Why a statement has no node.
+/// Why a statement has no node, or an edge no wire.
 #[derive(Clone, Copy, Debug, PartialEq, Eq)]
 pub(crate) enum NodeFault {
     Refused(GraphFaultKind),
@@ -90,5 +91,23 @@ impl<T: Drop> From<AllocFailed<T>> for NodeFault {
 
     fn from(_: AllocFailed<T>) -> NodeFault {
         NodeFault::NoMemory
+    }
+}
+
+/// The fault of the node or edge at this place, counted from 1; the name is that of the node, or of the edge's target.
+pub(crate) fn refusal_at(alloc: Global, fault: NodeFault, place: usize, name: &Text) -> GraphFault
+    ensures { IsFaultAt fault place name.now result }
+{
+    let NodeFault::Refused(kind) = fault else {
+        return GraphFault::NoMemory;
+    };
+    match name.copy(alloc) {
+        Ok(name) => GraphFault::Refused(GraphRefusal {
+            kind,
+            place,
+            name,
+            port_open: None,
+        }),
+        Err(NoMemory) => GraphFault::NoMemory,
     }
 }

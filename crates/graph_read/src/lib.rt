@@ -7,15 +7,22 @@
 mod attribute_rows;
 mod attributes;
 mod component;
+mod edges;
 mod fault;
+mod graph;
+#[cfg(test)]
+mod graph_tests;
 mod kept;
 mod laws;
 mod node;
 #[cfg(test)]
 mod node_tests;
+mod nodes;
+mod open;
 mod plain_rows;
 mod rows;
 mod shapes;
 
 pub use fault::{GraphFault, GraphFaultKind, GraphRefusal};
+pub use graph::graph_of;
 pub use laws::{numbers_read_back, rows_are_met, rows_read_back};

@@ -11,6 +11,7 @@ use Rattle.graph_core.proofs.Changes.{value_of-push_wire}
 use Rattle.graph_core.proofs.ByNamesAfter.{by_names-with_feeder}
 use Rattle.graph_core.proofs.Options.{none_some, some_there}
 use Rattle.graph_core.proofs.CanWireByNames.{can_wire_where_fits, fits_where_can_wire}
+use Rattle.graph_core.proofs.WiredByNames.{is_taken_by_names}
 use Rattle.graph_core.proofs.graph.Graph.add_wire.Goals as goal
 use Rattle.graph_core.proofs.graph.Graph.add_wire.Goals.{Else-is_err}
 
@@ -54,3 +55,12 @@ returns-in_err-try_wire-clause-can c from to can =
     let source = some_there _ from in
     let target = some_there _ to in
     absurd (none_some _ (fits_where_can_wire c.args.self.now ok c.args.source c.args.target source.0 target.0 source.1 target.1 can) c.in_err-try_wire.ensures)
+
+pub returns-in_err-try_wire-clause-taken : goal.returns-in_err-try_wire-clause-taken
+returns-in_err-try_wire-clause-taken c = is_taken_by_names c.args.self.now (subst IsGraph c.self.view_is c.self.invariant.0) c.args.source c.args.target
+
+pub returns-then-is_err-clause-taken : goal.returns-then-is_err-clause-taken
+returns-then-is_err-clause-taken c = is_taken_by_names c.args.self.now (subst IsGraph c.self.view_is c.self.invariant.0) c.args.source c.args.target
+
+pub returns-clause-taken : goal.returns-clause-taken
+returns-clause-taken c = is_taken_by_names c.args.self.now (subst IsGraph c.self.view_is c.self.invariant.0) c.args.source c.args.target

@@ -1,0 +1,53 @@
+-- The reading of a node behind others: its first refusals, in order.
+use Rattle.std.proofs.Common.{◌≡◌, ℕ, ◌≤◌, ◌<◌, Bool, true, false, cond, ◌||◌, List, [], ◌∷◌, Option, Some, is_some, Ok, Err, refl, sym, ap, ◌∙◌, arith, if◌then◌else◌}
+use Rattle.std.specs.Prelude.{bytes_eq, nat_le}
+use Rattle.std.specs.List.{list_any}
+use Rattle.std.specs.FinMap as map
+use Rattle.std.specs.Ordering.{eq_by_cmp}
+use Rattle.std.proofs.lemmas.Bool.{le-leb, leb-true, false_from_ne_true}
+use Rattle.std.proofs.lemmas.Map.Text.{is_eq-slice_cmp}
+use Rattle.dot_text.specs.declared.doc.DocNode.{DocNode}
+use Rattle.graph_core.specs.Name.{Name, name_cmp}
+use Rattle.graph_core.specs.Node.{Body}
+use Rattle.graph_read.specs.declared.fault.GraphFaultKind.TheVariants.{NameTaken, TooMany}
+use Rattle.graph_read.specs.declared.fault.NodeFault.{NodeFault}
+use Rattle.graph_read.specs.declared.fault.NodeFault.TheVariants.{Refused, NoMemory}
+use Rattle.graph_read.specs.Answers.{IsNodeRead}
+use Rattle.graph_read.specs.NodeReading.{NodeReading, node_reading, body_reading, within_limit, is_name}
+use Rattle.graph_read.specs.GraphReading.{names_of}
+use Rattle.graph_read.proofs.Lookups.{name_total}
+
+either_found : {X : Type 0} (test : Bool) (x : X) (o : Option X) → (test || is_some o) ≡ is_some (cond test (Some x) o)
+either_found true x o = refl
+either_found false x o = refl
+
+found_names : (name : Name) (nodes : List (Name × Body)) → list_any (bytes_eq name) (names_of nodes) ≡ is_some (map.find name_cmp name nodes)
+found_names name [] = refl
+found_names name (node ∷ nodes) =
+    (λ i. sym (is_eq-slice_cmp name node.0) i || found_names name nodes i) ∙ either_found (eq_by_cmp name_cmp name node.0) node.1 (map.find name_cmp name nodes)
+
+-- a name stands among those of the nodes exactly where it is a key of their map
+pub known_names : (name : Name) (nodes : List (Name × Body)) → list_any (bytes_eq name) (names_of nodes) ≡ map.contains_key (map.from_entries {R = name_cmp} nodes) name
+known_names name nodes = found_names name nodes ∙ ap is_some (sym (map.get-from_entries name_total nodes name))
+
+module _ (nodes : List (Name × Body)) (place : ℕ) (statement : DocNode) (named : is_name statement.name ≡ true) where
+  pub taken_name : map.contains_key (map.from_entries {R = name_cmp} nodes) statement.name ≡ true → node_reading (names_of nodes) place statement ≡ Err NameTaken
+  taken_name taken = rw named (rw (known_names statement.name nodes ∙ taken) refl)
+
+  pub new_name : map.contains_key (map.from_entries {R = name_cmp} nodes) statement.name ≡ false → node_reading (names_of nodes) place statement ≡ within_limit place (body_reading statement.pairs)
+  new_name new = rw named (rw (known_names statement.name nodes ∙ new) refl)
+
+pub refused_within : (name : Name) (place : ℕ) (body : NodeReading) (fault : NodeFault) → IsNodeRead name body (Err fault) → IsNodeRead name (within_limit place body) (Err fault)
+refused_within name place body (Refused kind) read = ap (within_limit place) read
+refused_within name place body NoMemory read = tt
+
+abbrev limit : Body → Bool → NodeReading
+limit body few = if few then Ok body else Err TooMany
+
+pub too_many : (place : ℕ) (body : Body) → 65536 < place → within_limit place (Ok body) ≡ Err TooMany
+too_many place body more =
+    let test : nat_le place 65536 ≡ false = false_from_ne_true (nat_le place 65536) (λ few. absurd (omega (arith, leb-true place 65536 few, more))) in
+    ap (λ (t : Bool). limit body t) test
+
+pub not_too_many : (place : ℕ) (body : Body) → place ≤ 65536 → within_limit place (Ok body) ≡ Ok body
+not_too_many place body few = ap (λ (t : Bool). limit body t) (le-leb place 65536 few)

@@ -1,0 +1,119 @@
+//! The wires of edges.
+ghost use Rattle.std.specs.Prelude.{◌≡◌, ◌≤◌, length, None, Some, codes, IfOk, IfErr, MatchOption};
+ghost use Rattle.std.specs.FinMap as map_of;
+ghost use Rattle.graph_core.specs.Kind.{Shape, KindOk, ports};
+ghost use Rattle.graph_core.specs.GraphValue.{by_names, port_named, shape_at};
+ghost use Rattle.graph_core.specs.Name.{Name};
+ghost use Rattle.graph_core.specs.Node.{body_of};
+ghost use Rattle.graph_read.specs.Refusals.{IsRefusal};
+ghost use Rattle.graph_read.specs.Attributes.{last_value};
+ghost use Rattle.graph_read.specs.GraphReading.{named_in, port_there, wire_between, edge_reading, edges_reading};
+ghost use Rattle.graph_read.specs.GraphSteps.{IsFound, IsPortThere, IsEnd, AreEnds, IsJoined};
+
+use crate::attributes::last_value;
+use crate::fault::GraphFaultKind::{PortTaken, ShapeDiffers, UnknownNode, UnknownPort};
+use crate::fault::NodeFault::{self, Refused};
+use crate::fault::{GraphFault, refusal_at};
+use dot_text::DocEdge;
+use graph_core::{AddWire, Graph, Kind, NodeId, PortAt, inputs, outputs};
+use port_types::{Side, Text, read_port_name};
+use std::alloc::Global;
+
+/// The node of the graph with this name.
+fn node_named(g: &Graph, name: &[u8]) -> Option<NodeId>
+    ensures { MatchOption result (map_of.get (by_names g.now).nodes name.now ≡ None) (IsFound g.now name.now) }
+{
+    let id = g.find(name)?;
+    g.node(id)?;
+    Some(id)
+}
+
+/// How many ports a node of this kind has on a side.
+fn port_count(kind: &Kind, side: Side) -> u8
+    requires { KindOk kind.now }
+    ensures { result ≡ length (ports kind.now side) }
+{
+    match side {
+        Side::Ins => inputs(kind),
+        Side::Outs => outputs(kind),
+    }
+}
+
+/// The number of the port of this kind that the text names.
+fn port_number(kind: &Kind, side: Side, text: &[u8]) -> Option<u8>
+    requires { KindOk kind.now }
+    ensures { MatchOption result (named_in side text.now 1 (ports kind.now side) ≡ None) (IsPortThere side text.now (ports kind.now side)) }
+{
+    let count = port_count(kind, side);
+    let number = read_port_name(text, side)?;
+    if number <= count { Some(number) } else { None }
+}
+
+/// The port of a node that the last pair of this key names.
+fn end_at(g: &Graph, id: NodeId, side: Side, key: &[u8], pairs: &[(Text, Text)]) -> Option<PortAt>
+    ensures { (name : Name) (found : IsFound g.now name id)
+        → MatchOption result (port_there side name (body_of found.node) (last_value key.now pairs.now) ≡ None) (IsEnd g.now id side name (body_of found.node) (last_value key.now pairs.now)) }
+{
+    let node = g.node(id)?;
+    let text = last_value(key, pairs)?;
+    let port = port_number(&node.kind, side, text)?;
+    Some(PortAt { node: id, port })
+}
+
+/// The output and the input that an edge names.
+fn ends_of(g: &Graph, edge: &DocEdge) -> Result<(PortAt, PortAt), NodeFault>
+    ensures { AreEnds g.now edge.now result }
+{
+    let Some(from) = node_named(g, edge.source.bytes()) else {
+        return Err(Refused(UnknownNode));
+    };
+    let Some(to) = node_named(g, edge.target.bytes()) else {
+        return Err(Refused(UnknownNode));
+    };
+    let pairs = edge.pairs.as_slice();
+    let Some(source) = end_at(g, from, Side::Outs, b"from", pairs) else {
+        return Err(Refused(UnknownPort));
+    };
+    let Some(target) = end_at(g, to, Side::Ins, b"to", pairs) else {
+        return Err(Refused(UnknownPort));
+    };
+    Ok((source, target))
+}
+
+/// Joins an output to an input, which are there.
+fn join(g: &mut Graph, source: PortAt, target: PortAt) -> Result<(), NodeFault>
+    ensures joined { (a b : Shape) → shape_at g.old Side.Outs source ≡ Some a → shape_at g.old Side.Ins target ≡ Some b
+        → IsJoined (wire_between (by_names g.old) (Some (port_named g.old source, a)) (Some (port_named g.old target, b))) (by_names g.old) (by_names g.new) result }
+    ensures slots { g.new.slots ≡ g.old.slots }
+{
+    match g.add_wire(source, target) {
+        Ok(()) => Ok(()),
+        Err(AddWire::UnknownPort) => Err(Refused(UnknownPort)),
+        Err(AddWire::PortTaken) => Err(Refused(PortTaken)),
+        Err(AddWire::ShapeDiffers) => Err(Refused(ShapeDiffers)),
+        Err(AddWire::NoMemory) => Err(NodeFault::NoMemory),
+    }
+}
+
+/// Adds the wire of an edge.
+fn add_edge(g: &mut Graph, edge: &DocEdge) -> Result<(), NodeFault>
+    ensures joined { IsJoined (edge_reading (by_names g.old) edge.now) (by_names g.old) (by_names g.new) result }
+    ensures slots { g.new.slots ≡ g.old.slots }
+{
+    let (source, target) = ends_of(g, edge)?;
+    join(g, source, target)
+}
+
+/// Adds the wires of edges, or answers the first refusal, with the place of the edge among them, counted from 1, and the name of its target.
+pub(crate) fn add_edges(alloc: Global, g: &mut Graph, edges: &[DocEdge]) -> Result<(), GraphFault>
+    ensures ok { IfOk result (λ _. edges_reading (by_names g.old) 1 edges.now ≡ Ok (by_names g.new)) }
+    ensures refused { IfErr result (IsRefusal (edges_reading (by_names g.old) 1 edges.now)) }
+    ensures slots { g.new.slots ≡ g.old.slots }
+{
+    for (index, edge) in edges.iter().enumerate() {
+        if let Err(fault) = add_edge(g, edge) {
+            return Err(refusal_at(alloc, fault, index + 1, &edge.target));
+        }
+    }
+    Ok(())
+}

@@ -1,0 +1,77 @@
+//! The nodes of statements.
+ghost use Rattle.std.specs.Prelude.{◌≡◌, ◌≤◌, IfOk, IfErr, None, Ok, [], length};
+ghost use Rattle.std.specs.FinMap as map_of;
+ghost use Rattle.graph_core.specs.GraphValue.{by_names, named_nodes};
+ghost use Rattle.graph_core.specs.NamedGraph.{IsNamed};
+ghost use Rattle.graph_core.specs.Node.{NodeOk};
+ghost use Rattle.graph_read.specs.Answers.{IsNodeRead};
+ghost use Rattle.graph_read.specs.Refusals.{IsRefusal};
+ghost use Rattle.graph_read.specs.GraphReading.{names_of, nodes_reading, graph_of_nodes};
+ghost use Rattle.graph_read.specs.NodeReading.{node_reading};
+ghost use Rattle.graph_read.specs.GraphSteps.{StandInOrder, IsAdded};
+
+use crate::fault::GraphFaultKind::{BadName, NameTaken, TooMany};
+use crate::fault::NodeFault::{self, Refused};
+use crate::fault::{GraphFault, refusal_at};
+use crate::node::{is_named, read_node};
+use dot_text::DocNode;
+use graph_core::{AddNode, Graph, Node};
+use std::alloc::Global;
+
+/// The greatest number of nodes that are read.
+const MAX_NODES: usize = 65_536;
+
+/// The node of the statement at this place, counted from 1, behind those of the graph.
+fn new_node(alloc: Global, g: &Graph, statement: &DocNode, place: usize) -> Result<Node, NodeFault>
+    ensures read { IsNodeRead statement.now.name (node_reading (names_of (named_nodes g.now.slots)) place statement.now) result }
+    ensures few { IfOk result (λ _. place ≤ 65536) }
+    ensures free { IfOk result (λ node. map_of.get (by_names g.now).nodes node.name ≡ None) }
+{
+    if !is_named(statement) {
+        return Err(Refused(BadName));
+    }
+    if g.find(statement.name.bytes()).is_some() {
+        return Err(Refused(NameTaken));
+    }
+    let node = read_node(alloc, statement)?;
+    if place > MAX_NODES {
+        return Err(Refused(TooMany));
+    }
+    Ok(node)
+}
+
+/// Adds the node of the statement at this place, counted from 1.
+fn add_statement(
+    alloc: Global,
+    g: &mut Graph,
+    statement: &DocNode,
+    place: usize,
+) -> Result<(), NodeFault>
+    ensures { IsAdded (node_reading (names_of (named_nodes g.old.slots)) place statement.now) statement.now.name place g.old g.new result }
+{
+    let node = new_node(alloc, g, statement, place)?;
+    match g.add_node(node) {
+        Ok(_) => Ok(()),
+        Err(AddNode::NameTaken) => unreachable!(),
+        Err(AddNode::NoMemory) => Err(NodeFault::NoMemory),
+    }
+}
+
+/// The graph of the nodes of statements, in their order and without wires, or the first refusal, with the place of the statement, counted from 1, and its name.
+pub(crate) fn read_nodes(alloc: Global, statements: &[DocNode]) -> Result<Graph, GraphFault>
+    ensures ok { IfOk result (λ g. nodes_reading [] 1 statements.now ≡ Ok (named_nodes g.slots)) }
+    ensures refused { IfErr result (IsRefusal (nodes_reading [] 1 statements.now)) }
+    ensures names { IfOk result (λ g. by_names g ≡ graph_of_nodes (named_nodes g.slots)) }
+    ensures order { IfOk result (λ g. StandInOrder g.slots statements.now) }
+    ensures named { IfOk result (λ g. IsNamed (by_names g)) }
+    ensures few { IfOk result (λ g. map_of.len (by_names g).nodes ≤ 65536) }
+    ensures limit { IfOk result (λ _. length statements.now ≤ 65536) }
+{
+    let mut g = Graph::new(alloc);
+    for (index, statement) in statements.iter().enumerate() {
+        if let Err(fault) = add_statement(alloc, &mut g, statement, index + 1) {
+            return Err(refusal_at(alloc, fault, index + 1, &statement.name));
+        }
+    }
+    Ok(g)
+}
