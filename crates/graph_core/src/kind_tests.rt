@@ -166,10 +166,12 @@ fn limits_of_counts(rt: HostRuntime) -> Result<(), Fail> {
 #[test]
 fn limits_of_fields(rt: HostRuntime) -> Result<(), Fail> {
     let alloc = rt.alloc();
-    let whole = Kind::Join(shapes(alloc, &[&[1; 64], &[1; 64]])?);
-    assert!(rt; is_right(&whole));
-    let past = Kind::Split(shapes(alloc, &[&[1; 64], &[1; 65]])?);
-    assert!(rt; !is_right(&past));
+    for (fields, want) in [(64, true), (65, false)] {
+        let half = vec![in alloc; 1; 64]?;
+        let other = vec![in alloc; 1; fields]?;
+        let join = Kind::Join(shapes(alloc, &[&half, &other])?);
+        assert_eq!(rt; is_right(&join), want, "{fields}");
+    }
     for (width, want) in [(0, true), (64, true), (65, false)] {
         let constant = Kind::Constant(shape(alloc, &[8])?, width, u64::MAX);
         assert_eq!(rt; is_right(&constant), want, "{width}");
