@@ -131,9 +131,7 @@ impl Graph {
     fn try_wire(&self, source: PortAt, target: PortAt) -> Result<(), AddWire>
         ensures { MatchResult result (λ _. wire_fault self.now source target ≡ None) (λ fault. wire_fault self.now source target ≡ Some fault) }
     {
-        let from = self
-            .owner(Side::Outs, source)
-            .ok_or(AddWire::UnknownPort)?;
+        let from = self.owner(Side::Outs, source).ok_or(AddWire::UnknownPort)?;
         let to = self.owner(Side::Ins, target).ok_or(AddWire::UnknownPort)?;
         if self.wire_into(target).is_some() || self.wire_from(source).is_some() {
             return Err(AddWire::PortTaken);
