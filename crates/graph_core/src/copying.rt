@@ -76,7 +76,10 @@ fn copy_pairs(alloc: Global, pairs: &[(Text, Text)]) -> Result<Items<(Text, Text
 }
 
 /// Equal slots of their own.
-pub(crate) fn copy_slots(alloc: Global, slots: &[Option<Node>]) -> Result<Vec<Option<Node>>, NoMemory>
+pub(crate) fn copy_slots(
+    alloc: Global,
+    slots: &[Option<Node>],
+) -> Result<Vec<Option<Node>>, NoMemory>
     ensures { IfOk result (λ copies. copies.items ≡ slots.now) }
 {
     let mut copies = Vec::new(alloc);
