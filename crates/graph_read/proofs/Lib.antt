@@ -1,1 +1,5 @@
-
+mod Pairs
+mod Numbers
+mod Names
+mod Lookups
+mod KeptPairs

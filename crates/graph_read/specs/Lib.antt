@@ -1,4 +1,6 @@
 pub mod Attributes
+pub mod LastPairs
 pub mod Rows
 pub mod NodeReading
+pub mod Answers
 pub mod GraphReading

@@ -27,33 +27,38 @@ abbrev pub has_star : Option (List ℕ) → Bool
 has_star None = false
 has_star (Some text) = list_any (λ byte. byte == 42) text
 
--- no ports where there is no text
-abbrev pub text_reading : Side → Option (List ℕ) → Result (List Port) PortFault
-text_reading side None = Ok []
-text_reading side (Some text) = reading side text
+-- the shapes of the ports; markers are ignored
+abbrev pub shapes_in : Result (List Port) PortFault → Result (List Shape) GraphFaultKind
+shapes_in (Err fault) = Err BadPorts
+shapes_in (Ok ports) = Ok (map (λ port. port.shape) ports)
 
--- the ports of a side
-abbrev pub side_reading : Side → List Pair → Result (List Port) PortFault
+-- no ports where there is no text
+abbrev pub text_reading : Side → Option (List ℕ) → Result (List Shape) GraphFaultKind
+text_reading side None = Ok []
+text_reading side (Some text) = shapes_in (reading side text)
+
+-- the shapes of the ports of a side
+abbrev pub side_reading : Side → List Pair → Result (List Shape) GraphFaultKind
 side_reading side pairs = text_reading side (last_value (side_word side) pairs)
 
--- markers are ignored
-abbrev pub shapes_of : List Port → List Shape
-shapes_of ports = map (λ port. port.shape) ports
+abbrev pub ports_reading : Component → Result (List Shape) GraphFaultKind → Result (List Shape) GraphFaultKind → List Pair → Reading
+ports_reading component (Err fault) outs pairs = Err fault
+ports_reading component (Ok ins) (Err fault) pairs = Err fault
+ports_reading component (Ok ins) (Ok outs) pairs = row_reading component ins outs pairs
 
-abbrev pub ports_reading : Component → Result (List Port) PortFault → Result (List Port) PortFault → List Pair → Reading
-ports_reading component (Err fault) outs pairs = Err BadPorts
-ports_reading component (Ok ins) (Err fault) pairs = Err BadPorts
-ports_reading component (Ok ins) (Ok outs) pairs = row_reading component (shapes_of ins) (shapes_of outs) pairs
-
-abbrev pub component_reading : List ℕ → Option Component → List Pair → Reading
-component_reading word None pairs = if is_memory word then Err MemoryNode else Err UnknownKind
-component_reading word (Some component) pairs =
-    if has_star (last_value (codes "in") pairs) || has_star (last_value (codes "out") pairs) then Err MemoryPort
+-- the kind of a component
+abbrev pub component_reading : Component → List Pair → Reading
+component_reading component pairs =
+    if has_star (last_value (side_word Ins) pairs) || has_star (last_value (side_word Outs) pairs) then Err MemoryPort
     else ports_reading component (side_reading Ins pairs) (side_reading Outs pairs) pairs
+
+abbrev pub named_reading : List ℕ → Option Component → List Pair → Reading
+named_reading word None pairs = if is_memory word then Err MemoryNode else Err UnknownKind
+named_reading word (Some component) pairs = component_reading component pairs
 
 abbrev pub word_reading : Option (List ℕ) → List Pair → Reading
 word_reading None pairs = Err NoKind
-word_reading (Some word) pairs = component_reading word (component_of word) pairs
+word_reading (Some word) pairs = named_reading word (component_of word) pairs
 
 -- the kind that the pairs of a node say
 abbrev pub kind_reading : List Pair → Reading
@@ -70,14 +75,23 @@ is_name name = nat_le 1 (length name) && nat_le (length name) 255 && list_all is
 abbrev pub NodeReading : Type 0
 NodeReading = Result Body GraphFaultKind
 
+-- the body of a node: its kind and what it keeps
+abbrev pub with_kept : List Pair → Reading → NodeReading
+with_kept pairs (Err fault) = Err fault
+with_kept pairs (Ok kind) = Ok (record { kind = kind; kept = kept_of kind pairs })
+
+-- what the pairs of a node say
+abbrev pub body_reading : List Pair → NodeReading
+body_reading pairs = with_kept pairs (kind_reading pairs)
+
 -- at most 65,536 nodes are read
-abbrev pub with_place : ℕ → List Pair → Reading → NodeReading
-with_place place pairs (Err fault) = Err fault
-with_place place pairs (Ok kind) = if nat_le place 65536 then Ok (record { kind = kind; kept = kept_of kind pairs }) else Err TooMany
+abbrev pub within_limit : ℕ → NodeReading → NodeReading
+within_limit place (Err fault) = Err fault
+within_limit place (Ok body) = if nat_le place 65536 then Ok body else Err TooMany
 
 -- the node of the statement at this place, counted from 1, behind nodes of these names
 abbrev pub node_reading : List Name → ℕ → DocNode → NodeReading
 node_reading earlier place node =
     if not (is_name node.name) then Err BadName
     else (if list_any (bytes_eq node.name) earlier then Err NameTaken
-    else with_place place node.pairs (kind_reading node.pairs))
+    else within_limit place (body_reading node.pairs))

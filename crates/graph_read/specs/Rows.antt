@@ -1,6 +1,7 @@
 -- The rows of the table of components: the kind of a node from its word, the shapes of its ports and its attributes.
-use Rattle.std.specs.Prelude.{◌≡◌, ℕ, ◌+◌, ◌^◌, Bool, true, false, not, ◌&&◌, ◌||◌, ◌==◌, nat_le, List, [], ◌∷◌, length, map, Option, Some, None, Result, Ok, Err, bytes_eq, codes, if◌then◌else◌}
+use Rattle.std.specs.Prelude.{◌≡◌, ℕ, ◌+◌, ◌^◌, Bool, true, false, not, ◌&&◌, ◌||◌, ◌==◌, nat_le, List, [], ◌∷◌, length, map, Option, Some, None, Result, Ok, Err, find, bytes_eq, codes, if◌then◌else◌}
 use Rattle.std.specs.List.{list_all, concat}
+use Rattle.std.specs.Option.{option_or}
 use Rattle.op_table.specs.declared.op.Op.{Op}
 use Rattle.op_table.specs.Table.{op_named, is_typed_op}
 use Rattle.port_types.specs.Tag.{tag_width}
@@ -13,20 +14,36 @@ use Rattle.graph_read.specs.declared.fault.GraphFaultKind.{GraphFaultKind}
 use Rattle.graph_read.specs.declared.fault.GraphFaultKind.TheVariants.{BadPorts, BadOp, BadValue, BadTags}
 use Rattle.graph_read.specs.Attributes.{Pair, last_value, value_of, tags_of}
 
--- the words of the table, in its order; `CtrlMerge` is a second spelling
-abbrev pub words : List (List ℕ × Component)
-words =
-    (codes "Entry", Entry) ∷ (codes "Exit", Exit) ∷ (codes "Buffer", Buffer) ∷ (codes "Fork", Fork) ∷ (codes "Join", Join) ∷ (codes "Split", Split)
-    ∷ (codes "Operator", Operator) ∷ (codes "Constant", Constant) ∷ (codes "Source", Source) ∷ (codes "Sink", Sink) ∷ (codes "Mux", Mux) ∷ (codes "Branch", Branch)
-    ∷ (codes "Merge", Merge) ∷ (codes "CntrlMerge", CtrlMerge) ∷ (codes "CtrlMerge", CtrlMerge) ∷ (codes "Init", Init) ∷ (codes "Tagger", Tagger) ∷ []
+-- the components, in the order of the table
+abbrev pub components : List Component
+components = Entry ∷ Exit ∷ Buffer ∷ Fork ∷ Join ∷ Split ∷ Operator ∷ Constant ∷ Source ∷ Sink ∷ Mux ∷ Branch ∷ Merge ∷ CtrlMerge ∷ Init ∷ Tagger ∷ []
 
-abbrev pub named_in : List (List ℕ × Component) → List ℕ → Option Component
-named_in [] word = None
-named_in (row ∷ rows) word = if bytes_eq row.0 word then Some row.1 else named_in rows word
+-- the word of the table
+abbrev pub word_of : Component → List ℕ
+word_of Entry = codes "Entry"
+word_of Exit = codes "Exit"
+word_of Buffer = codes "Buffer"
+word_of Fork = codes "Fork"
+word_of Join = codes "Join"
+word_of Split = codes "Split"
+word_of Operator = codes "Operator"
+word_of Constant = codes "Constant"
+word_of Source = codes "Source"
+word_of Sink = codes "Sink"
+word_of Mux = codes "Mux"
+word_of Branch = codes "Branch"
+word_of Merge = codes "Merge"
+word_of CtrlMerge = codes "CntrlMerge"
+word_of Init = codes "Init"
+word_of Tagger = codes "Tagger"
+
+-- `CtrlMerge` is a second spelling
+abbrev pub second_spelling : List ℕ → Option Component
+second_spelling word = if bytes_eq word (codes "CtrlMerge") then Some CtrlMerge else None
 
 -- the component with this word
-abbrev pub component_of : List ℕ → Option Component
-component_of word = named_in words word
+unfoldable pub component_of : List ℕ → Option Component
+component_of word = option_or (find (λ component. bytes_eq (word_of component) word) components) (second_spelling word)
 
 abbrev pub Reading : Type 0
 Reading = Result Kind GraphFaultKind

@@ -1,4 +1,8 @@
-use port_types::{Side, Text};
+ghost use Rattle.std.specs.Prelude.{◌≡◌};
+ghost use Rattle.graph_read.specs.declared.fault.NodeFault.TheVariants.{NoMemory};
+
+use port_types::{NoMemory, Side, Text};
+use std::alloc::{AllocError, AllocFailed};
 
 /// Why a document is no graph. For each node in the order of the file the first that holds counts, up to `TooMany`; then for each edge, up to `ShapeDiffers`; then `PortOpen`.
 #[derive(Clone, Copy, Debug, PartialEq, Eq)]
@@ -56,4 +60,35 @@ pub struct GraphRefusal {
 pub enum GraphFault {
     Refused(GraphRefusal),
     NoMemory,
+}
+
+/// Why a statement has no node.
+#[derive(Clone, Copy, Debug, PartialEq, Eq)]
+pub(crate) enum NodeFault {
+    Refused(GraphFaultKind),
+    NoMemory,
+}
+
+impl From<NoMemory> for NodeFault {
+    ghost from_gives = { λ _ fault. fault ≡ NoMemory };
+
+    fn from(_: NoMemory) -> NodeFault {
+        NodeFault::NoMemory
+    }
+}
+
+impl From<AllocError> for NodeFault {
+    ghost from_gives = { λ _ fault. fault ≡ NoMemory };
+
+    fn from(_: AllocError) -> NodeFault {
+        NodeFault::NoMemory
+    }
+}
+
+impl<T: Drop> From<AllocFailed<T>> for NodeFault {
+    ghost from_gives = { λ _ fault. fault ≡ NoMemory };
+
+    fn from(_: AllocFailed<T>) -> NodeFault {
+        NodeFault::NoMemory
+    }
 }

@@ -4,7 +4,16 @@
 //! - `GraphRefusal`: what is refused and where; `GraphFaultKind`: why.
 #![tactic(auto)]
 
+mod attribute_rows;
+mod attributes;
 mod component;
 mod fault;
+mod kept;
+mod node;
+#[cfg(test)]
+mod node_tests;
+mod plain_rows;
+mod rows;
+mod shapes;
 
 pub use fault::{GraphFault, GraphFaultKind, GraphRefusal};

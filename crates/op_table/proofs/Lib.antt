@@ -1,5 +1,6 @@
 mod Names
 mod Widths
+mod Tables
 mod Bits
 mod Shifts
 mod Signs

@@ -1,9 +1,10 @@
 -- What is proved about the definitions.
-use Rattle.std.specs.Prelude.{◌≡◌, ℕ, ◌+◌, ◌-◌, ◌*◌, ◌^◌, ◌<◌, ◌≤◌, ◌≢◌, min, max, ℤ, pos, ◌+ℤ◌, ◌*ℤ◌, ◌<ℤ◌, ◌≤ℤ◌, neg_ℤ, unsigned_abs, List, [], ◌∷◌, All, length}
+use Rattle.std.specs.Prelude.{◌≡◌, ◌↔◌, Some, IsTrue, ℕ, ◌+◌, ◌-◌, ◌*◌, ◌^◌, ◌<◌, ◌≤◌, ◌≢◌, min, max, ℤ, pos, ◌+ℤ◌, ◌*ℤ◌, ◌<ℤ◌, ◌≤ℤ◌, neg_ℤ, unsigned_abs, List, [], ◌∷◌, All, length}
 use Rattle.std.specs.Int.{bit_at}
 use Rattle.op_table.specs.declared.op.Op.{Op}
 use Rattle.op_table.specs.declared.op.Op.TheVariants.{Add, Sub, Mul, Udiv, Urem, Sdiv, Srem, And, Or, Xor, Shl, Lshr, Ashr, Zext, Sext, Trunc}
 use Rattle.op_table.specs.Operator.{op_word, graph_word, IsTypedOp}
+use Rattle.op_table.specs.Table.{op_named, is_typed_op}
 use Rattle.op_table.specs.Value.{signed, modulo, sum_digit, widths_of, InputsFit, op_value}
 
 -- no two operators share a name
@@ -16,6 +17,14 @@ ShortWordsDiffer = (op other : Op) → op_word op ≡ op_word other → op ≡ o
 -- an operator takes one to three inputs, and no width is above 64
 abbrev pub TypedWidths : Type 0
 TypedWidths = (op : Op) (ins : List ℕ) (out : ℕ) → IsTypedOp op ins out → (1 ≤ length ins) × (length ins ≤ 3) × All (λ width. width ≤ 64) ins × (out ≤ 64)
+
+-- each operator is the one with its name
+abbrev pub NamesAreFound : Type 0
+NamesAreFound = (op : Op) → op_named (graph_word op) ≡ Some op
+
+-- the test of widths tells the columns of the table
+abbrev pub WidthsAreTested : Type 0
+WidthsAreTested = (op : Op) (ins : List ℕ) (out : ℕ) → IsTrue (is_typed_op op ins out) ↔ IsTypedOp op ins out
 
 -- a value fits its width
 abbrev pub ValueFits : Type 0

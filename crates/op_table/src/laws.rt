@@ -1,4 +1,4 @@
-ghost use Rattle.op_table.specs.Laws.{GraphWordsDiffer, ShortWordsDiffer, TypedWidths, ValueFits, ReadingComesBack, NumberComesBack, SubUndoesAdd, AddUndoesSub, UnsignedQuotient, UnsignedDivisionComesBack, SignedDivisionComesBack, SignedQuotient, SignedRemainder, LeastByMinusOne, AshrRoundsDown, ShiftedOut, BitByBit, TruncUndoesZext, TruncUndoesSext, SextKeepsReading};
+ghost use Rattle.op_table.specs.Laws.{GraphWordsDiffer, ShortWordsDiffer, TypedWidths, NamesAreFound, WidthsAreTested, ValueFits, ReadingComesBack, NumberComesBack, SubUndoesAdd, AddUndoesSub, UnsignedQuotient, UnsignedDivisionComesBack, SignedDivisionComesBack, SignedQuotient, SignedRemainder, LeastByMinusOne, AshrRoundsDown, ShiftedOut, BitByBit, TruncUndoesZext, TruncUndoesSext, SextKeepsReading};
 
 /// No two operators share a name, in a graph or in a function.
 pub fn names_differ()
@@ -9,6 +9,12 @@ pub fn names_differ()
 /// Typed widths are one to three inputs, and none is above 64.
 pub fn typed_widths_are_few()
     ensures { TypedWidths }
+{}
+
+/// The tests of names and widths tell the table of operators.
+pub fn tests_are_the_table()
+    ensures names { NamesAreFound }
+    ensures widths { WidthsAreTested }
 {}
 
 /// A value fits its width, where the widths are typed and the inputs fit theirs.

@@ -1,6 +1,7 @@
 ghost use Rattle.std.specs.Prelude.{◌≡◌, ◌≢◌, ◌↔◌, Some, IsNone, find, bytes_eq};
 ghost use Rattle.op_table.specs.declared.op.Op.{Op};
 ghost use Rattle.op_table.specs.Operator.{op_word, graph_word};
+ghost use Rattle.op_table.specs.Table.{op_named};
 
 /// An operator.
 #[derive(Clone, Copy, Debug, PartialEq, Eq, PartialOrd, Ord, Hash)]
@@ -171,6 +172,7 @@ pub fn short_name(op: Op) -> &'static str
 pub fn op_of(word: &[u8]) -> Option<Op>
     ensures named { (op : Op) → (result ≡ Some op) ↔ (word.now ≡ graph_word op) }
     ensures none { IsNone result ↔ ((op : Op) → word.now ≢ graph_word op) }
+    ensures table { result ≡ op_named word.now }
 {
     find_named(word)
 }

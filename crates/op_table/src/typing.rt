@@ -1,5 +1,6 @@
-ghost use Rattle.std.specs.Prelude.{◌↔◌, IsTrue};
+ghost use Rattle.std.specs.Prelude.{◌≡◌, ◌↔◌, IsTrue};
 ghost use Rattle.op_table.specs.Operator.{IsWidth, KeepsWidth, Compares, Chooses, Widens, Narrows, Passes, IsTypedOp};
+ghost use Rattle.op_table.specs.Table.{is_width, keeps_width, compares, chooses, widens, narrows, passes, is_typed_op};
 
 use crate::op::Op;
 
@@ -8,8 +9,10 @@ const MAX_WIDTH: u8 = 64;
 
 /// Whether an operator takes inputs of these widths and gives an output of this width, in bits.
 /// Every width is from 1 to 64, except that `ret` also takes 0.
+#[tactic(auto, unfolding(crate::specs::Table::is_typed_op))]
 pub fn typed_op(op: Op, ins: &[u8], out: u8) -> bool
-    ensures { IsTrue result ↔ IsTypedOp op ins.now out }
+    ensures typed { IsTrue result ↔ IsTypedOp op ins.now out }
+    ensures table { result ≡ is_typed_op op ins.now out }
 {
     match op {
         Op::Add
@@ -44,14 +47,16 @@ pub fn typed_op(op: Op, ins: &[u8], out: u8) -> bool
 
 /// Whether every operator takes the width.
 fn is_width(width: u8) -> bool
-    ensures { IsTrue result ↔ IsWidth width }
+    ensures typed { IsTrue result ↔ IsWidth width }
+    ensures table { result ≡ is_width width }
 {
     1 <= width && width <= MAX_WIDTH
 }
 
 /// `w w` gives `w`.
 fn keeps_width(ins: &[u8], out: u8) -> bool
-    ensures { IsTrue result ↔ KeepsWidth ins.now out }
+    ensures typed { IsTrue result ↔ KeepsWidth ins.now out }
+    ensures table { result ≡ keeps_width ins.now out }
 {
     match ins {
         [first, second] => *first == out && *second == out && is_width(out),
@@ -61,7 +66,8 @@ fn keeps_width(ins: &[u8], out: u8) -> bool
 
 /// `w w` gives 1.
 fn compares(ins: &[u8], out: u8) -> bool
-    ensures { IsTrue result ↔ Compares ins.now out }
+    ensures typed { IsTrue result ↔ Compares ins.now out }
+    ensures table { result ≡ compares ins.now out }
 {
     match ins {
         [first, second] => first == second && is_width(*first) && out == 1,
@@ -71,7 +77,8 @@ fn compares(ins: &[u8], out: u8) -> bool
 
 /// `1 w w` gives `w`.
 fn chooses(ins: &[u8], out: u8) -> bool
-    ensures { IsTrue result ↔ Chooses ins.now out }
+    ensures typed { IsTrue result ↔ Chooses ins.now out }
+    ensures table { result ≡ chooses ins.now out }
 {
     match ins {
         [choice, first, second] => {
@@ -83,7 +90,8 @@ fn chooses(ins: &[u8], out: u8) -> bool
 
 /// `w` gives at least `w`.
 fn widens(ins: &[u8], out: u8) -> bool
-    ensures { IsTrue result ↔ Widens ins.now out }
+    ensures typed { IsTrue result ↔ Widens ins.now out }
+    ensures table { result ≡ widens ins.now out }
 {
     match ins {
         [width] => is_width(*width) && is_width(out) && *width <= out,
@@ -93,7 +101,8 @@ fn widens(ins: &[u8], out: u8) -> bool
 
 /// `w` gives at most `w`.
 fn narrows(ins: &[u8], out: u8) -> bool
-    ensures { IsTrue result ↔ Narrows ins.now out }
+    ensures typed { IsTrue result ↔ Narrows ins.now out }
+    ensures table { result ≡ narrows ins.now out }
 {
     match ins {
         [width] => is_width(*width) && is_width(out) && out <= *width,
@@ -103,7 +112,8 @@ fn narrows(ins: &[u8], out: u8) -> bool
 
 /// `w` gives `w`, which may be 0.
 fn passes(ins: &[u8], out: u8) -> bool
-    ensures { IsTrue result ↔ Passes ins.now out }
+    ensures typed { IsTrue result ↔ Passes ins.now out }
+    ensures table { result ≡ passes ins.now out }
 {
     match ins {
         [width] => *width == out && out <= MAX_WIDTH,
