@@ -11,6 +11,7 @@ mod copying;
 mod fields;
 mod graph;
 mod kind;
+mod laws;
 mod name;
 mod node;
 mod owned;
@@ -24,6 +25,7 @@ mod wires;
 
 pub use graph::{AddNode, AddWire, Graph, PortOpen, check_typed};
 pub use kind::{Kind, inputs, kind_ok, outputs};
+pub use laws::ports_are_shapes;
 pub use name::is_name;
 pub use node::Node;
 pub use owned::owns;
