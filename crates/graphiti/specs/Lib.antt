@@ -9,3 +9,4 @@ pub mod PlainParts
 pub mod Input
 pub mod ReadBack
 pub mod Answer
+pub mod CanonicalReading

@@ -1,5 +1,6 @@
 //! Laws of the definitions that the contract of `run` speaks of.
 ghost use Rattle.graphiti.specs.Plain.{PlainIsOneGraph};
+ghost use Rattle.graphiti.specs.CanonicalReading.{CanonicalReadsBack};
 ghost use Rattle.graphiti.specs.ReadBack.{TextReadsBack, ReadCanBeRead, StrippedCanBeRead, PrintReadsBack, InputIsOneGraph, PrintOfPrint};
 ghost use Rattle.graphiti.specs.Stripped.{HasStripped, IsOneStripped};
 ghost use Rattle.graphiti.specs.Strips.{TurnsEnd, TurnsStrip};
@@ -82,3 +83,8 @@ pub fn stripped_drains()
 {
     buffer_keeps_drains();
 }
+
+/// The canonical document of a graph within the limits of reading is read as that graph.
+pub fn canonical_document_reads_back()
+    ensures { CanonicalReadsBack }
+{}
