@@ -3,3 +3,7 @@ mod Numbers
 mod Names
 mod Lookups
 mod KeptPairs
+mod RowsMet
+mod AttributeRowsMet
+mod RowsBack
+mod NumberTexts

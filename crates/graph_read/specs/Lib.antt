@@ -4,3 +4,4 @@ pub mod Rows
 pub mod NodeReading
 pub mod Answers
 pub mod GraphReading
+pub mod Laws

@@ -141,7 +141,8 @@ pub(crate) fn tagger_at(
         return Err(Refused(BadPorts));
     };
     match tagged.widths() {
-        [width, fields @ ..] if fields == shape.widths() && is_same(out, shape) && is_same(back, tagged) => {
+        [width, fields @ ..]
+            if fields == shape.widths() && is_same(out, shape) && is_same(back, tagged) => {
             tagger_of(alloc, shape, *width, pairs)
         }
         _ => Err(Refused(BadPorts)),
@@ -161,9 +162,7 @@ fn tagger_of(
         return Err(Refused(BadTags));
     };
     match tags_of(text) {
-        Some(tags) if width == tag_width(tags) => {
-            Ok(Kind::Tagger(copy_of(alloc, shape)?, tags))
-        }
+        Some(tags) if width == tag_width(tags) => { Ok(Kind::Tagger(copy_of(alloc, shape)?, tags)) }
         _ => Err(Refused(BadTags)),
     }
 }

@@ -9,6 +9,7 @@ mod attributes;
 mod component;
 mod fault;
 mod kept;
+mod laws;
 mod node;
 #[cfg(test)]
 mod node_tests;
@@ -17,3 +18,4 @@ mod rows;
 mod shapes;
 
 pub use fault::{GraphFault, GraphFaultKind, GraphRefusal};
+pub use laws::{numbers_read_back, rows_are_met, rows_read_back};

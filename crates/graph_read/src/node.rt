@@ -18,10 +18,11 @@ use crate::component::{Component, component_of};
 use crate::fault::GraphFaultKind::{BadPorts, MemoryNode, MemoryPort, NoKind, UnknownKind};
 use crate::fault::NodeFault::{self, Refused};
 use crate::kept::kept_of;
+use crate::laws::rows_are_met;
 use crate::rows::kind_at;
 use dot_text::DocNode;
 use graph_core::{Kind, Node};
-use port_types::{Items, PortFault, Port, Shape, Side, Text, read_ports, reads_ports};
+use port_types::{Items, Port, PortFault, Shape, Side, Text, read_ports, reads_ports};
 use std::alloc::Global;
 
 /// Whether a node may have the name of the statement: 1 to 255 bytes, none of them below 33, a double quote or a backslash.
@@ -82,7 +83,9 @@ fn read_component(
     }
     let ins = read_side(alloc, pairs, Side::Ins)?;
     let outs = read_side(alloc, pairs, Side::Outs)?;
-    kind_at(alloc, component, ins.as_slice(), outs.as_slice(), pairs)
+    rows_are_met();
+    let kind = kind_at(alloc, component, ins.as_slice(), outs.as_slice(), pairs)?;
+    Ok(kind)
 }
 
 /// Whether the text of the side holds `*`, as a word for a port to a memory does.
@@ -96,11 +99,7 @@ fn has_star(pairs: &[(Text, Text)], side: Side) -> bool
 }
 
 /// The shapes of the ports of a side, none where there is no text.
-fn read_side(
-    alloc: Global,
-    pairs: &[(Text, Text)],
-    side: Side,
-) -> Result<Items<Shape>, NodeFault>
+fn read_side(alloc: Global, pairs: &[(Text, Text)], side: Side) -> Result<Items<Shape>, NodeFault>
     ensures reading { IsRead (side_reading side pairs.now) result }
     ensures few { IfOk result (λ shapes. length shapes ≤ 64) }
     ensures shapes { IfOk result (λ shapes. All IsShape shapes) }

@@ -98,8 +98,7 @@ pub(crate) fn mux_at(alloc: Global, ins: &[Shape], outs: &[Shape]) -> Result<Kin
 {
     match (ins, outs) {
         ([select, first, second], [out])
-            if is_bit(select) && is_same(first, out) && is_same(second, out) =>
-        {
+            if is_bit(select) && is_same(first, out) && is_same(second, out) => {
             Ok(Kind::Mux(copy_of(alloc, out)?))
         }
         _ => Err(Refused(BadPorts)),
@@ -111,8 +110,7 @@ pub(crate) fn branch_at(alloc: Global, ins: &[Shape], outs: &[Shape]) -> Result<
 {
     match (ins, outs) {
         ([shape, condition], [first, second])
-            if is_bit(condition) && is_same(first, shape) && is_same(second, shape) =>
-        {
+            if is_bit(condition) && is_same(first, shape) && is_same(second, shape) => {
             Ok(Kind::Branch(copy_of(alloc, shape)?))
         }
         _ => Err(Refused(BadPorts)),
@@ -132,22 +130,17 @@ pub(crate) fn merge_at(alloc: Global, ins: &[Shape], outs: &[Shape]) -> Result<K
 }
 
 /// The second output tells the inputs apart.
-pub(crate) fn ctrl_merge_at(
-    alloc: Global,
-    ins: &[Shape],
-    outs: &[Shape],
-) -> Result<Kind, NodeFault>
+pub(crate) fn ctrl_merge_at(alloc: Global, ins: &[Shape], outs: &[Shape]) -> Result<Kind, NodeFault>
     requires { length ins.now ≤ 64 }
     ensures { IsRead (ctrl_merge_at ins.now outs.now) result }
 {
-    let (out, [width]) = (match outs {
-        [out, index] => (out, index.widths()),
-        _ => return Err(Refused(BadPorts)),
-    }) else {
+    let [out, index] = outs else {
         return Err(Refused(BadPorts));
     };
-    if ins.is_empty() || !all_are(out, ins) || !tells_apart(*width, ins.len() as u8) {
-        return Err(Refused(BadPorts));
+    match index.widths() {
+        [width] if !ins.is_empty() && all_are(out, ins) && tells_apart(*width, ins.len() as u8) => {
+            Ok(Kind::CtrlMerge(copy_of(alloc, out)?, ins.len() as u8, *width))
+        }
+        _ => Err(Refused(BadPorts)),
     }
-    Ok(Kind::CtrlMerge(copy_of(alloc, out)?, ins.len() as u8, *width))
 }

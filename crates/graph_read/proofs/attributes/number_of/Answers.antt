@@ -19,7 +19,7 @@ returns-in_err-number c =
     let more = digits_value_more c.args.base c.args.digits.now c.loop-byte.byte-index c.loop-byte-test.true in
     let le = digits_value-take-le c.args.base c.args.digits.now (c.loop-byte.byte-index + 1) c.requires in
     let none : in_word (digits_value c.args.base (take (c.loop-byte.byte-index + 1) c.args.digits.now)) ≡ None =
-        ap in_word (more ∙ sym (λ i. c.loop-byte.invariant.0 i * c.args.base + c.digit_value.ensures i)) ∙ sym c.with_digit.ensures ∙ c.in_err-number.was
+    ap in_word (more ∙ sym (λ i. c.loop-byte.invariant.0 i * c.args.base + c.digit_value.ensures i)) ∙ sym c.with_digit.ensures ∙ c.in_err-number.was
     in
     c.from_residual.ensures ∙ sym (past_word _ _ le none)
 

@@ -12,7 +12,7 @@ pub returns : goal.returns
 returns c =
     let given = c.into_iter-port-iterator.ensures.into_iter_gives in
     let all =
-        (YieldsList-end (YieldsList-from_vec {s = c.into_iter-port-iterator.result} c.into_vec-port-items.result.items given.0 (given.1 ∙ c.into_vec-port-items.result.ok.0))
-            c.loop-port.yielded c.loop-port.port-iterator c.loop-port.yielded_by c.next.result c.next.new.self c.in-None.is c.next.ensures.steps).0
+    (YieldsList-end (YieldsList-from_vec {s = c.into_iter-port-iterator.result} c.into_vec-port-items.result.items given.0 (given.1 ∙ c.into_vec-port-items.result.ok.0))
+    c.loop-port.yielded c.loop-port.port-iterator c.loop-port.yielded_by c.next.result c.next.new.self c.in-None.is c.next.ensures.steps).0
     in
     c.new.ensures ∙ c.loop-port.invariant ∙ ap (λ (ports : List Port). map (λ port. port.shape) ports) (sym (map-same c.loop-port.yielded) ∙ all ∙ c.into_vec-port-items.ensures)

@@ -1,0 +1,216 @@
+-- A kind with attributes that is read meets its row.
+use Rattle.std.proofs.Common.{◌≡◌, ◌⊎◌, inl, inr, ℕ, ◌==◌, ◌&&◌, ◌≤◌, Bool, true, false, cond, List, [], ◌∷◌, ◌++◌, length, map, Option, Some, None, Result, Ok, Err, refl, sym, ap, subst, ◌∙◌, arith}
+use Rattle.std.specs.Prelude.{bytes_eq, nat_le, All, codes, find}
+use Rattle.std.specs.List.{concat}
+use Rattle.std.specs.Str.Parse.{digits_value}
+use Rattle.std.proofs.lemmas.Bool.{leb-true, eqb-true, and_parts}
+use Rattle.std.proofs.lemmas.List.Elements.{All-head, All-tail}
+use Rattle.std.proofs.lemmas.Slice.Eq.{bytes_eq-Decides}
+use Rattle.op_table.specs.declared.op.Op.{Op}
+use Rattle.op_table.specs.Operator.{graph_word}
+use Rattle.op_table.specs.Table.{ops, op_named, is_typed_op}
+use Rattle.op_table.specs.Laws.{WidthsAreTested}
+use Rattle.port_types.specs.Shape.{IsShape}
+use Rattle.port_types.specs.PortGrammar.{is_numeral}
+use Rattle.port_types.specs.Tag.{tag_width}
+use Rattle.graph_core.specs.declared.kind.Kind.{Kind}
+use Rattle.graph_core.specs.declared.kind.Kind as kind
+use Rattle.graph_core.specs.Kind.{Shape, field, tagged, KindOk}
+use Rattle.graph_read.specs.declared.component.Component.{Component}
+use Rattle.graph_read.specs.declared.component.Component as component
+use Rattle.graph_read.specs.declared.fault.GraphFaultKind.{GraphFaultKind}
+use Rattle.graph_read.specs.declared.fault.GraphFaultKind.TheVariants.{BadPorts, BadOp, BadValue, BadTags}
+use Rattle.graph_read.specs.Attributes.{Pair, last_value, value_of, tags_of}
+use Rattle.graph_read.specs.Rows.{Reading, all_are, are_fields, operator_at, operator_named, operator_typed, constant_at, constant_of, constant_with, init_at, init_with, init_marked, start_of, mark_of, tagger_at, tagger_of, tagger_with, row_reading}
+use Rattle.graph_read.specs.Laws.{MeetsRow, AreRead}
+use Rattle.graph_read.proofs.RowsMet.{same_kind, refused, same_shape, same_shapes, becomes, entry-met, exit-met, buffer-met, fork-met, join-met, split-met, source-met, sink-met, mux-met, branch-met, merge-met, ctrl_merge-met}
+
+-- ---- answers
+
+if_read : (test : Bool) (found k : Kind) (fault : GraphFaultKind) → ◌≡◌ {A = Reading} (cond test (Ok found) (Err fault)) (Ok k) → (test ≡ true) × (found ≡ k)
+if_read true found k fault e = (refl, same_kind found k e)
+if_read false found k fault e = refused fault k e
+
+then_read : (test : Bool) (reading : Reading) (k : Kind) (fault : GraphFaultKind) → ◌≡◌ {A = Reading} (cond test reading (Err fault)) (Ok k) → (test ≡ true) × (reading ≡ Ok k)
+then_read true reading k fault e = (refl, e)
+then_read false reading k fault e = refused fault k e
+
+if_some : (test : Bool) (x y : ℕ) → cond test (Some x) None ≡ Some y → (test ≡ true) × (x ≡ y)
+if_some true x y e = (refl, cc)
+if_some false x y e = absurd (cc)
+
+-- ---- numbers
+
+tags_few : (text : List ℕ) (tags : ℕ) → tags_of text ≡ Some tags → (1 ≤ tags) × (tags ≤ 256)
+tags_few text tags e =
+    let number = digits_value 10 text in
+    let found = if_some (is_numeral text && nat_le 1 number && nat_le number 256) number tags e in
+    let tests = and_parts (is_numeral text && nat_le 1 number) (nat_le number 256) found.0 in
+    let first = and_parts (is_numeral text) (nat_le 1 number) tests.0 in
+    (omega (arith, leb-true 1 number first.1, found.1), omega (arith, leb-true number 256 tests.1, found.1))
+
+start_says : (given : Option (List ℕ)) (value : ℕ) → start_of given ≡ Some value →
+    ((given ≡ None) × (value ≡ 0)) ⊎ ((text : List ℕ) × (given ≡ Some text) × (value_of text ≡ Some value))
+start_says None value e = inl (refl, cc)
+start_says (Some text) value e = inr (text, refl, e)
+
+mark_says : (given : Option (List ℕ)) (mark : ℕ) → mark_of given ≡ Some mark →
+    ((given ≡ None) × (mark ≡ 0)) ⊎ ((text : List ℕ) × (given ≡ Some text) × (tags_of text ≡ Some mark))
+mark_says None mark e = inl (refl, cc)
+mark_says (Some text) mark e = inr (text, refl, e)
+
+mark_few : (given : Option (List ℕ)) (mark : ℕ) → mark_of given ≡ Some mark → mark ≤ 256
+mark_few None mark e = let zero : mark ≡ 0 = cc in omega (arith, zero)
+mark_few (Some text) mark e = (tags_few text mark e).1
+
+-- ---- fields and names
+
+fields_are : (shapes : List Shape) → are_fields shapes ≡ true → shapes ≡ map field (concat shapes)
+fields_are [] test = refl
+fields_are ([] ∷ shapes) test = absurd (cc)
+fields_are ((width ∷ []) ∷ shapes) test = ap (λ (rest : List Shape). (width ∷ []) ∷ rest) (fields_are shapes test)
+fields_are ((width ∷ more ∷ widths) ∷ shapes) test =
+    let parts = and_parts (length (width ∷ more ∷ widths) == 1) (are_fields shapes) test in
+    absurd (omega (arith, eqb-true (length (width ∷ more ∷ widths)) 1 parts.0))
+
+found_step : (test : Op → Bool) (first x : Op) (others : Option Op) (b : Bool) → test first ≡ b → cond b (Some first) others ≡ Some x → (others ≡ Some x → test x ≡ true) → test x ≡ true
+found_step test first x others true passes e rest = cc
+found_step test first x others false fails e rest = rest e
+
+find_passes : (test : Op → Bool) (xs : List Op) (x : Op) → find test xs ≡ Some x → test x ≡ true
+find_passes test [] x e = cc
+find_passes test (first ∷ xs) x e = found_step test first x (find test xs) (test first) refl e (find_passes test xs x)
+
+word_named : (word : List ℕ) (op : Op) → op_named word ≡ Some op → word ≡ graph_word op
+unfolding op_named
+word_named word op e = sym ((bytes_eq-Decides (graph_word op) word).0 (find_passes (λ other. bytes_eq (graph_word other) word) ops op e))
+
+module _ (k : Kind) where
+  -- ---- what was found
+
+  typed_found : (widths : List ℕ) (width : ℕ) (found : Option Op) → operator_typed widths width found ≡ Ok k →
+      (op : Op) × (found ≡ Some op) × (is_typed_op op widths width ≡ true) × (kind.TheVariants.Operator op widths width ≡ k)
+  typed_found widths width None e = refused BadOp k e
+  typed_found widths width (Some op) e =
+      let found = if_read (is_typed_op op widths width) (kind.TheVariants.Operator op widths width) k BadOp e in
+      (op, refl, found.0, found.1)
+
+  operator_found : (widths : List ℕ) (width : ℕ) (given : Option (List ℕ)) → operator_named widths width given ≡ Ok k →
+      (op : Op) × (given ≡ Some (graph_word op)) × (is_typed_op op widths width ≡ true) × (kind.TheVariants.Operator op widths width ≡ k)
+  operator_found widths width None e = refused BadOp k e
+  operator_found widths width (Some word) e =
+      let found = typed_found widths width (op_named word) e in
+      (found.0, ap (λ (w : List ℕ). Some w) (word_named word found.0 found.1), found.2, found.3)
+
+  valued_found : (shape : Shape) (width : ℕ) (given : Option ℕ) → constant_with shape width given ≡ Ok k →
+      (value : ℕ) × (given ≡ Some value) × (kind.TheVariants.Constant shape width value ≡ k)
+  valued_found shape width None e = refused BadValue k e
+  valued_found shape width (Some value) e = (value, refl, same_kind (kind.TheVariants.Constant shape width value) k e)
+
+  constant_found : (shape : Shape) (width : ℕ) (given : Option (List ℕ)) → constant_of shape width given ≡ Ok k →
+      (value : ℕ) × ((text : List ℕ) × (given ≡ Some text) × (value_of text ≡ Some value)) × (kind.TheVariants.Constant shape width value ≡ k)
+  constant_found shape width None e = refused BadValue k e
+  constant_found shape width (Some text) e =
+      let found = valued_found shape width (value_of text) e in
+      (found.0, (text, refl, found.1), found.2)
+
+  marked_found : (value : ℕ) (given : Option ℕ) → init_marked value given ≡ Ok k → (mark : ℕ) × (given ≡ Some mark) × (kind.TheVariants.Init value mark ≡ k)
+  marked_found value None e = refused BadTags k e
+  marked_found value (Some mark) e = (mark, refl, same_kind (kind.TheVariants.Init value mark) k e)
+
+  init_found : (start : Option ℕ) (given : Option (List ℕ)) → init_with start given ≡ Ok k →
+      (value : ℕ) × (mark : ℕ) × (start ≡ Some value) × (value ≤ 1) × (mark_of given ≡ Some mark) × (kind.TheVariants.Init value mark ≡ k)
+  init_found None given e = refused BadValue k e
+  init_found (Some value) given e =
+      let small = then_read (nat_le value 1) (init_marked value (mark_of given)) k BadValue e in
+      let found = marked_found value (mark_of given) small.1 in
+      (value, found.0, refl, leb-true value 1 small.0, found.1, found.2)
+
+  tagged_found : (shape : Shape) (width : ℕ) (given : Option ℕ) → tagger_with shape width given ≡ Ok k →
+      (tags : ℕ) × (given ≡ Some tags) × (width ≡ tag_width tags) × (kind.TheVariants.Tagger shape tags ≡ k)
+  tagged_found shape width None e = refused BadTags k e
+  tagged_found shape width (Some tags) e =
+      let found = if_read (width == tag_width tags) (kind.TheVariants.Tagger shape tags) k BadTags e in
+      (tags, refl, eqb-true width (tag_width tags) found.0, found.1)
+
+  tagger_found : (shape : Shape) (width : ℕ) (given : Option (List ℕ)) → tagger_of shape width given ≡ Ok k →
+      (tags : ℕ) × ((text : List ℕ) × (given ≡ Some text) × (tags_of text ≡ Some tags)) × (width ≡ tag_width tags) × (kind.TheVariants.Tagger shape tags ≡ k)
+  tagger_found shape width None e = refused BadTags k e
+  tagger_found shape width (Some text) e =
+      let found = tagged_found shape width (tags_of text) e in
+      (found.0, (text, refl, found.1), found.2, found.3)
+
+  -- ---- the rows
+
+  module _ (pairs : List Pair) where
+    pub operator-met : WidthsAreTested → (given fed : List Shape) → operator_at given fed (last_value (codes "op") pairs) ≡ Ok k → MeetsRow component.TheVariants.Operator given fed pairs k
+    operator-met tested given ((width ∷ []) ∷ []) e =
+        let fields = then_read (are_fields given) (operator_named (concat given) width (last_value (codes "op") pairs)) k BadPorts e in
+        let found = operator_found (concat given) width (last_value (codes "op") pairs) fields.1 in
+        becomes component.TheVariants.Operator given ((width ∷ []) ∷ []) pairs (kind.TheVariants.Operator found.0 (concat given) width) k found.3
+        (record { is = refl; ok = (tested found.0 (concat given) width).0 found.2; ports = (fields_are given fields.0, refl); says = found.1 })
+    operator-met tested given fed e = refused BadPorts k e
+
+    pub constant-met : (given fed : List Shape) → AreRead given → AreRead fed → constant_at given fed (last_value (codes "value") pairs) ≡ Ok k → MeetsRow component.TheVariants.Constant given fed pairs k
+    constant-met (shape ∷ []) ((width ∷ []) ∷ []) read fed e =
+        let found = constant_found shape width (last_value (codes "value") pairs) e in
+        let narrow = All-head (λ w. w ≤ 64) width [] (All-head IsShape (width ∷ []) [] fed.each).narrow in
+        becomes component.TheVariants.Constant (shape ∷ []) ((width ∷ []) ∷ []) pairs (kind.TheVariants.Constant shape width found.0) k found.2
+        (record { is = refl; ok = (All-head IsShape shape [] read.each, narrow); ports = (refl, refl); says = found.1 })
+    constant-met given feds read fed e = refused BadPorts k e
+
+    pub init-met : (given fed : List Shape) → init_at given fed (last_value (codes "value") pairs) (last_value (codes "ooo") pairs) ≡ Ok k → MeetsRow component.TheVariants.Init given fed pairs k
+    init-met (shape ∷ []) (out ∷ []) e =
+        let start = last_value (codes "value") pairs in
+        let ooo = last_value (codes "ooo") pairs in
+        let bits = then_read (all_are (field 1) (shape ∷ out ∷ [])) (init_with (start_of start) ooo) k BadPorts e in
+        let tests = and_parts (bytes_eq shape (field 1)) (all_are (field 1) (out ∷ [])) bits.0 in
+        let found = init_found (start_of start) ooo bits.1 in
+        becomes component.TheVariants.Init (shape ∷ []) (out ∷ []) pairs (kind.TheVariants.Init found.0 found.1) k found.5
+        (record {
+          is = refl;
+          ok = (found.3, mark_few ooo found.1 found.4);
+          ports = (ap (λ (s : Shape). s ∷ []) (same_shape shape (field 1) tests.0), same_shapes (field 1) (out ∷ []) tests.1);
+          says = (start_says start found.0 found.2, mark_says ooo found.1 found.4);
+        })
+    init-met given fed e = refused BadPorts k e
+
+    pub tagger-met : (given fed : List Shape) → AreRead given → AreRead fed → tagger_at given fed (last_value (codes "tags") pairs) ≡ Ok k → MeetsRow component.TheVariants.Tagger given fed pairs k
+    tagger-met (shape ∷ back ∷ []) ((width ∷ fields) ∷ out ∷ []) read fed e =
+        let ports = then_read (all_are shape (fields ∷ out ∷ []) && bytes_eq back (width ∷ fields)) (tagger_of shape width (last_value (codes "tags") pairs)) k BadPorts e in
+        let tests = and_parts (all_are shape (fields ∷ out ∷ [])) (bytes_eq back (width ∷ fields)) ports.0 in
+        let shapes = and_parts (bytes_eq fields shape) (all_are shape (out ∷ [])) tests.0 in
+        let found = tagger_found shape width (last_value (codes "tags") pairs) ports.1 in
+        let whole : ◌≡◌ {A = Shape} (width ∷ fields) (tagged found.0 shape) = λ i. found.2 i ∷ same_shape fields shape shapes.0 i in
+        let few = tags_few found.1.0 found.0 found.1.2 in
+        becomes component.TheVariants.Tagger (shape ∷ back ∷ []) ((width ∷ fields) ∷ out ∷ []) pairs (kind.TheVariants.Tagger shape found.0) k found.3
+        (record {
+          is = refl;
+          ok = (All-head IsShape shape (back ∷ []) read.each, subst IsShape whole (All-head IsShape (width ∷ fields) (out ∷ []) fed.each), few.0, few.1);
+          ports = (
+            ap (λ (s : Shape). shape ∷ s ∷ []) (same_shape back (width ∷ fields) tests.1 ∙ whole),
+            λ i. whole i ∷ same_shapes shape (out ∷ []) shapes.1 i,
+          );
+          says = found.1;
+        })
+    tagger-met given feds read fed e = refused BadPorts k e
+
+-- a kind that is read meets its row
+pub row_met : WidthsAreTested → (component : Component) (given fed : List Shape) (pairs : List Pair) (k : Kind) → AreRead given → AreRead fed →
+    row_reading component given fed pairs ≡ Ok k → MeetsRow component given fed pairs k
+row_met tested component.TheVariants.Entry given fed pairs k ins outs e = entry-met pairs k given fed outs e
+row_met tested component.TheVariants.Exit given fed pairs k ins outs e = exit-met pairs k given fed ins e
+row_met tested component.TheVariants.Buffer given fed pairs k ins outs e = buffer-met pairs k given fed ins e
+row_met tested component.TheVariants.Fork given fed pairs k ins outs e = fork-met pairs k given fed ins outs e
+row_met tested component.TheVariants.Join given fed pairs k ins outs e = join-met pairs k given fed ins outs e
+row_met tested component.TheVariants.Split given fed pairs k ins outs e = split-met pairs k given fed ins outs e
+row_met tested component.TheVariants.Operator given fed pairs k ins outs e = operator-met k pairs tested given fed e
+row_met tested component.TheVariants.Constant given fed pairs k ins outs e = constant-met k pairs given fed ins outs e
+row_met tested component.TheVariants.Source given fed pairs k ins outs e = source-met pairs k given fed outs e
+row_met tested component.TheVariants.Sink given fed pairs k ins outs e = sink-met pairs k given fed ins e
+row_met tested component.TheVariants.Mux given fed pairs k ins outs e = mux-met pairs k given fed outs e
+row_met tested component.TheVariants.Branch given fed pairs k ins outs e = branch-met pairs k given fed ins e
+row_met tested component.TheVariants.Merge given fed pairs k ins outs e = merge-met pairs k given fed ins outs e
+row_met tested component.TheVariants.CtrlMerge given fed pairs k ins outs e = ctrl_merge-met pairs k given fed ins outs e
+row_met tested component.TheVariants.Init given fed pairs k ins outs e = init-met k pairs given fed e
+row_met tested component.TheVariants.Tagger given fed pairs k ins outs e = tagger-met k pairs given fed ins outs e

@@ -1,0 +1,90 @@
+-- Laws of the rows: which kind is read, from its component, the shapes of its ports and its attributes.
+use Rattle.std.specs.Prelude.{◌≡◌, ◌↔◌, ◌⊎◌, ℕ, ◌^◌, ◌<◌, ◌≤◌, false, List, [], ◌∷◌, ◌++◌, length, Some, None, Ok, All, codes}
+use Rattle.std.specs.Fmt.{decimal, digits}
+use Rattle.op_table.specs.Operator.{graph_word}
+use Rattle.port_types.specs.Shape.{IsShape}
+use Rattle.graph_core.specs.declared.kind.Kind.{Kind}
+use Rattle.graph_core.specs.declared.kind.Kind.TheVariants.{Entry, Exit, Buffer, Fork, Join, Split, Operator, Constant, Source0, Sink0, Mux, Branch, Merge, CtrlMerge, Init, Tagger}
+use Rattle.graph_core.specs.Kind.{Shape, ins, outs, KindOk}
+use Rattle.graph_read.specs.declared.component.Component.{Component}
+use Rattle.graph_read.specs.declared.component.Component as component
+use Rattle.graph_read.specs.Attributes.{Pair, last_value, value_of, tags_of}
+use Rattle.graph_read.specs.Rows.{row_reading}
+
+-- the component of a kind
+abbrev pub component_at : Kind → Component
+component_at (Entry shape) = component.TheVariants.Entry
+component_at (Exit shape) = component.TheVariants.Exit
+component_at (Buffer shape) = component.TheVariants.Buffer
+component_at (Fork shape count) = component.TheVariants.Fork
+component_at (Join shapes) = component.TheVariants.Join
+component_at (Split shapes) = component.TheVariants.Split
+component_at (Operator op widths width) = component.TheVariants.Operator
+component_at (Constant shape width value) = component.TheVariants.Constant
+component_at (Source0 shape) = component.TheVariants.Source
+component_at (Sink0 shape) = component.TheVariants.Sink
+component_at (Mux shape) = component.TheVariants.Mux
+component_at (Branch shape) = component.TheVariants.Branch
+component_at (Merge shape count) = component.TheVariants.Merge
+component_at (CtrlMerge shape count width) = component.TheVariants.CtrlMerge
+component_at (Init value mark) = component.TheVariants.Init
+component_at (Tagger shape tags) = component.TheVariants.Tagger
+
+-- the ports of the kind; an Entry may also have its shape as an input, and an Exit as an output
+abbrev pub HasPorts : Kind → List Shape → List Shape → Type 0
+HasPorts (Entry shape) given fed = ((given ≡ []) ⊎ (given ≡ shape ∷ [])) × (fed ≡ shape ∷ [])
+HasPorts (Exit shape) given fed = (given ≡ shape ∷ []) × ((fed ≡ []) ⊎ (fed ≡ shape ∷ []))
+HasPorts kind given fed = (given ≡ ins kind) × (fed ≡ outs kind)
+
+-- the pairs say this value
+abbrev pub SaysValue : List Pair → ℕ → Type 0
+SaysValue pairs value = (text : List ℕ) × (last_value (codes "value") pairs ≡ Some text) × (value_of text ≡ Some value)
+
+-- the pairs say this number of tags under a key
+abbrev pub SaysTags : List ℕ → List Pair → ℕ → Type 0
+SaysTags key pairs tags = (text : List ℕ) × (last_value key pairs ≡ Some text) × (tags_of text ≡ Some tags)
+
+-- an absent attribute says 0
+abbrev pub IsAbsent : List ℕ → List Pair → ℕ → Type 0
+IsAbsent key pairs number = (last_value key pairs ≡ None) × (number ≡ 0)
+
+-- the pairs say the attributes of the kind
+abbrev pub Says : Kind → List Pair → Type 0
+Says (Operator op widths width) pairs = last_value (codes "op") pairs ≡ Some (graph_word op)
+Says (Constant shape width value) pairs = SaysValue pairs value
+Says (Init value mark) pairs =
+    (IsAbsent (codes "value") pairs value ⊎ SaysValue pairs value) × (IsAbsent (codes "ooo") pairs mark ⊎ SaysTags (codes "ooo") pairs mark)
+Says (Tagger shape tags) pairs = SaysTags (codes "tags") pairs tags
+Says _ pairs = Unit {0}
+
+-- ports that may be read: at most 64 of a side, with shapes
+pub record AreRead (shapes : List Shape) : Type 0 where
+  pub few : length shapes ≤ 64
+  pub each : All IsShape shapes
+
+-- the kind meets its row with these ports and attributes
+pub record MeetsRow (component : Component) (given fed : List Shape) (pairs : List Pair) (kind : Kind) : Type 0 where
+  pub is : component ≡ component_at kind
+  pub ok : KindOk kind
+  pub ports : HasPorts kind given fed
+  pub says : Says kind pairs
+
+-- a kind is read exactly where it meets its row
+abbrev pub RowsAreMet : Type 0
+RowsAreMet = (component : Component) (given fed : List Shape) (pairs : List Pair) (kind : Kind) → AreRead given → AreRead fed →
+    (row_reading component given fed pairs ≡ Ok kind) ↔ MeetsRow component given fed pairs kind
+
+-- a kind's own ports and attributes read as the kind
+abbrev pub RowsReadBack : Type 0
+RowsReadBack = (kind : Kind) (pairs : List Pair) → KindOk kind → Says kind pairs → row_reading (component_at kind) (ins kind) (outs kind) pairs ≡ Ok kind
+
+-- numbers read back as they are written
+
+abbrev pub DecimalValues : Type 0
+DecimalValues = (number : ℕ) → number < 2 ^ 64 → value_of (decimal number) ≡ Some number
+
+abbrev pub HexadecimalValues : Type 0
+HexadecimalValues = (number : ℕ) → number < 2 ^ 64 → value_of (codes "0x" ++ digits 16 false number) ≡ Some number
+
+abbrev pub DecimalTags : Type 0
+DecimalTags = (tags : ℕ) → 1 ≤ tags → tags ≤ 256 → tags_of (decimal tags) ≡ Some tags

@@ -1,0 +1,24 @@
+ghost use Rattle.graph_read.specs.Laws.{RowsAreMet, RowsReadBack, DecimalValues, HexadecimalValues, DecimalTags};
+
+use op_table::tests_are_the_table;
+
+/// A kind is read from ports and attributes exactly where it meets its row of the table of ports with them.
+pub fn rows_are_met()
+    ensures { RowsAreMet }
+{
+    tests_are_the_table();
+}
+
+/// The ports and attributes of a kind read as the kind.
+pub fn rows_read_back()
+    ensures { RowsReadBack }
+{
+    tests_are_the_table();
+}
+
+/// Values and numbers of tags read as they are written.
+pub fn numbers_read_back()
+    ensures decimal { DecimalValues }
+    ensures hexadecimal { HexadecimalValues }
+    ensures tags { DecimalTags }
+{}
