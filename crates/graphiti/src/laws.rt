@@ -9,10 +9,13 @@ ghost use Rattle.graphiti.specs.Behaviour.{StrippedDrains, StrippedIsRefined, St
 use dot_text::{
     one_document, printed_document_is_utf8, printed_document_stands, standing_document_prints,
 };
+use graph_core::ports_are_shapes;
+use graph_read::{numbers_read_back, rows_read_back};
 use module_sem::{
     buffer_keeps_drains, graph_buffer_shows_nothing, graph_typed_as_circuit, refines_in_steps,
     refines_itself,
 };
+use port_types::{reads_back, reads_ports};
 
 /// A plain document is one graph alone.
 pub fn plain_is_one_graph()
@@ -87,4 +90,10 @@ pub fn stripped_drains()
 /// The canonical document of a graph within the limits of reading is read as that graph.
 pub fn canonical_document_reads_back()
     ensures { CanonicalReadsBack }
-{}
+{
+    ports_are_shapes();
+    reads_ports();
+    reads_back();
+    rows_read_back();
+    numbers_read_back();
+}
