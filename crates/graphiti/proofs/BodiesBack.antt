@@ -44,7 +44,7 @@ abbrev SayOwned : Kind → List Pair → Type 0
 SayOwned kind pairs = (key : List ℕ) → is_owned kind key ≡ true → last_value key pairs ≡ last_value key (front kind)
 
 -- what ensures that texts of numbers and ports are read
-pub record AreRead : Type 0 where
+pub record ReadingLaws : Type 0 where
   pub shapes : PortsAreShapes
   pub says : ReadsPorts
   pub back : ReadsBack
@@ -52,7 +52,7 @@ pub record AreRead : Type 0 where
   pub values : HexadecimalValues
   pub tags : DecimalTags
 
-module _ (laws : AreRead) where
+module _ (laws : ReadingLaws) where
   says_own : (kind : Kind) (pairs : List Pair) → KindOk kind → ValueFits kind → SayOwned kind pairs → Says kind pairs
   says_own (Entry shape) pairs ok fits say = tt
   says_own (Exit shape) pairs ok fits say = tt

@@ -9,13 +9,13 @@ use Rattle.graph_read.specs.GraphReading.{graph_of_nodes, edges_reading, unless,
 use Rattle.graphiti.specs.CanonicalReading.{CanBeReadBack, CanonicalReadsBack}
 use Rattle.graphiti.proofs.Lookups.{name_total, name_same, port_total, port_same}
 use Rattle.graphiti.proofs.MapEntries.{from_entries-entries}
-use Rattle.graphiti.proofs.BodiesBack.{AreRead, body_read}
+use Rattle.graphiti.proofs.BodiesBack.{ReadingLaws, body_read}
 use Rattle.graphiti.proofs.NodesBack.{SaysBodies, nodes_back}
 use Rattle.graphiti.proofs.PortNames.{names_ports}
 use Rattle.graphiti.proofs.EdgesBack.{edges_back}
 use Rattle.graphiti.proofs.PortsClosed.{none_open}
 
-module _ (laws : AreRead) (g : NamedGraph) (within : CanBeReadBack g) where
+module _ (laws : ReadingLaws) (g : NamedGraph) (within : CanBeReadBack g) where
   abbrev nodes : List (Name × Body)
   nodes = map_of.entries g.nodes
 
@@ -36,5 +36,5 @@ module _ (laws : AreRead) (g : NamedGraph) (within : CanBeReadBack g) where
   is_read =
       ap (wired (map edge_entry wires)) (nodes_back g within.names says within.few) ∙ ap (closed nodes) edges_read ∙ ap (unless g) (none_open g within.typed)
 
-pub canonical_reads_back : AreRead → CanonicalReadsBack
+pub canonical_reads_back : ReadingLaws → CanonicalReadsBack
 canonical_reads_back laws g within = is_read laws g within

@@ -37,3 +37,4 @@ pub mod PortsBack
 pub mod BodiesBack
 pub mod PortNames
 pub mod CanonicalGraph
+pub mod ReadNodes

@@ -1,11 +1,13 @@
 -- The entries of a finite map.
-use Rattle.std.proofs.Common.{◌≡◌, ◌≢◌, Bool, true, false, cond, ◌||◌, T, List, [], ◌∷◌, Option, Some, None, Ordering, refl, sym, ap, ◌∙◌}
+use Rattle.std.proofs.Common.{◌≡◌, ◌≢◌, Bool, true, false, cond, ◌||◌, T, List, [], ◌∷◌, Option, Some, None, Ordering, refl, sym, ap, subst, ◌∙◌}
 use Rattle.std.specs.List.{AllByRecursion, list_any}
-use Rattle.std.specs.Cmp.{IsTotalOrder}
+use Rattle.std.specs.Cmp.{IsTotalOrder, Equal-is}
 use Rattle.std.specs.Ordering.{eq_by_cmp}
 use Rattle.std.specs.FinMap as map
 use Rattle.std.specs.FinMap.{FinMap, IsAntisymmetric}
 use Rattle.std.specs.FinMap.Entries.{find, is_sorted}
+use Rattle.std.proofs.lemmas.List.Elements.{All-from_recursion}
+use Rattle.std.proofs.lemmas.List.Folds.{list_any_none}
 use Rattle.graphiti.proofs.EntryLists as lists
 use Rattle.graphiti.proofs.Lookups.{other_test}
 
@@ -28,8 +30,7 @@ at_entry test e es x passes false later is = ap (λ (t : Bool). test e || t) (la
 
 -- a test fails at all elements
 pub none_passes : {A : Type 0} (test : A → Bool) (xs : List A) → AllByRecursion (λ x. test x ≡ false) xs → list_any test xs ≡ false
-none_passes test [] each = refl
-none_passes test (x ∷ xs) each = (λ i. each.0 i || list_any test xs) ∙ none_passes test xs each.1
+none_passes test xs each = list_any_none test xs (All-from_recursion (λ x. test x ≡ false) xs each)
 
 module _ {K X : Type 0} {R : K → K → Ordering} (o : IsTotalOrder R) (same : IsAntisymmetric R) where
   pub from_entries-entries : (m : FinMap R X) → map.from_entries (map.entries m) ≡ m
@@ -49,3 +50,12 @@ module _ {K X : Type 0} {R : K → K → Ordering} (o : IsTotalOrder R) (same : 
   pub found_passes : (test : K × X → Bool) (q : K) (x : X) → ((k : K) → test (k, x) ≡ true) → (es : List (K × X)) → find R q es ≡ Some x → list_any test es ≡ true
   found_passes test q x passes [] found = absurd (none_is None x refl found)
   found_passes test q x passes (e ∷ es) found = at_entry test e es x (passes e.0) (eq_by_cmp R q e.0) (found_passes test q x passes es) found
+
+  -- what holds of each entry holds of each that is found
+  pub found_entry : (P : K × X → Type 0) (es : List (K × X)) → AllByRecursion P es → (k : K) (x : X) → find R k es ≡ Some x → P (k, x)
+  found_entry P [] each k x found = absurd (none_is None x refl found)
+  found_entry P (e ∷ es) each k x found = at_first (eq_by_cmp R k e.0) refl (found_entry P es each.1 k x) found
+    where
+      at_first : (b : Bool) → eq_by_cmp R k e.0 ≡ b → (find R k es ≡ Some x → P (k, x)) → cond b (Some e.1) (find R k es) ≡ Some x → P (k, x)
+      at_first true test later is = subst P (λ i. (sym (same k e.0 ((Equal-is (R k e.0)).0 test)) i, some_is e.1 x is i)) each.0
+      at_first false test later is = later is

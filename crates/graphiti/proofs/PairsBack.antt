@@ -255,7 +255,8 @@ module _ (kind : Kind) where
         | inr other ↦ at_another pair q other
       ]
 
-  in_reverse : (q : Name) (pairs : List Pair) → find name_cmp q (unowned_of (reverse pairs)) ≡ cond (is_owned kind q) None (last_value q pairs)
+  -- what is kept under a key
+  pub in_reverse : (q : Name) (pairs : List Pair) → find name_cmp q (unowned_of (reverse pairs)) ≡ cond (is_owned kind q) None (last_value q pairs)
   unfolding OneKept
   in_reverse q [] = sym (none_twice (is_owned kind q))
   in_reverse q (pair ∷ pairs) =

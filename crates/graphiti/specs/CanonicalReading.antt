@@ -1,6 +1,7 @@
 -- Canonical documents as documents of graphs.
 use Rattle.std.specs.Prelude.{◌≡◌, ℕ, ◌^◌, ◌<◌, ◌≤◌, List, Some, Ok}
 use Rattle.std.specs.FinMap as map
+use Rattle.dot_text.specs.declared.doc.Doc.{Doc}
 use Rattle.graph_core.specs.declared.kind.Kind.{Kind}
 use Rattle.graph_core.specs.declared.kind.Kind.TheVariants.{Constant}
 use Rattle.graph_core.specs.Name.{Name}
@@ -33,3 +34,7 @@ pub record CanBeReadBack (g : NamedGraph) : Type 0 where
 -- the canonical document of a graph is read as that graph
 abbrev pub CanonicalReadsBack : Type 0
 CanonicalReadsBack = (g : NamedGraph) → CanBeReadBack g → graph_reading (canonical_document g) ≡ Ok g
+
+-- what a graph that is read has at each node: a value that fits, and no kept key that the kind owns
+abbrev pub ReadFits : Type 0
+ReadFits = (doc : Doc) (g : NamedGraph) → graph_reading doc ≡ Ok g → ValuesFit g × KeptAreUnowned g

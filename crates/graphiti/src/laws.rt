@@ -1,6 +1,6 @@
 //! Laws of the definitions that the contract of `run` speaks of.
 ghost use Rattle.graphiti.specs.Plain.{PlainIsOneGraph};
-ghost use Rattle.graphiti.specs.CanonicalReading.{CanonicalReadsBack};
+ghost use Rattle.graphiti.specs.CanonicalReading.{CanonicalReadsBack, ReadFits};
 ghost use Rattle.graphiti.specs.ReadBack.{TextReadsBack, ReadCanBeRead, StrippedCanBeRead, PrintReadsBack, InputIsOneGraph, PrintOfPrint};
 ghost use Rattle.graphiti.specs.Stripped.{HasStripped, IsOneStripped};
 ghost use Rattle.graphiti.specs.Strips.{TurnsEnd, TurnsStrip};
@@ -10,7 +10,7 @@ use dot_text::{
     one_document, printed_document_is_utf8, printed_document_stands, standing_document_prints,
 };
 use graph_core::ports_are_shapes;
-use graph_read::{numbers_read_back, rows_read_back};
+use graph_read::{numbers_read_back, rows_are_met, rows_read_back};
 use module_sem::{
     buffer_keeps_drains, graph_buffer_shows_nothing, graph_typed_as_circuit, refines_in_steps,
     refines_itself,
@@ -96,4 +96,12 @@ pub fn canonical_document_reads_back()
     reads_back();
     rows_read_back();
     numbers_read_back();
+}
+
+/// In a graph that is read the values of Constants fit 64 bits, and no kept attribute is one that its kind owns.
+pub fn read_graph_fits()
+    ensures { ReadFits }
+{
+    reads_ports();
+    rows_are_met();
 }
