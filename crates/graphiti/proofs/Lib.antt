@@ -38,3 +38,5 @@ pub mod BodiesBack
 pub mod PortNames
 pub mod CanonicalGraph
 pub mod ReadNodes
+pub mod WrittenTexts
+pub mod WrittenDocument

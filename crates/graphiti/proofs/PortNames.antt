@@ -53,7 +53,7 @@ behind_side Outs text = refl
 name_read : (side : Side) (number : ℕ) → number < 2 ^ 64 → port_number side (port_name side number) ≡ Some number
 name_read side number small = ap number_in (behind_side side (decimal number)) ∙ number_read number small
 
-last_port : {A : Type 0} (xs : List A) (port : ℕ) (x : A) → port_get xs port ≡ Some x → port ≤ length xs
+pub last_port : {A : Type 0} (xs : List A) (port : ℕ) (x : A) → port_get xs port ≡ Some x → port ≤ length xs
 last_port [] port x is = absurd (cc)
 last_port (y ∷ xs) zero x is = omega arith
 last_port (y ∷ xs) (suc zero) x is = omega arith

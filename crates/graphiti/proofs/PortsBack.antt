@@ -58,7 +58,7 @@ module _ (kind : Kind) (side : Side) where
   shapes_of number [] = refl
   shapes_of number (shape ∷ shapes) = ap (λ (ss : List Shape). shape ∷ ss) (shapes_of (number + 1) shapes)
 
-are_ports : PortsAreShapes → (kind : Kind) (side : Side) → KindOk kind → ArePorts (marked_ports kind side)
+pub are_ports : PortsAreShapes → (kind : Kind) (side : Side) → KindOk kind → ArePorts (marked_ports kind side)
 are_ports right kind side ok =
     let shapes = ports kind side in
     let bounds = right kind side ok in

@@ -10,3 +10,4 @@ pub mod Input
 pub mod ReadBack
 pub mod Answer
 pub mod CanonicalReading
+pub mod CanonicalTexts

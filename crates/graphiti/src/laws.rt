@@ -1,6 +1,7 @@
 //! Laws of the definitions that the contract of `run` speaks of.
 ghost use Rattle.graphiti.specs.Plain.{PlainIsOneGraph};
 ghost use Rattle.graphiti.specs.CanonicalReading.{CanonicalReadsBack, ReadFits};
+ghost use Rattle.graphiti.specs.CanonicalTexts.{CanonicalPrints};
 ghost use Rattle.graphiti.specs.ReadBack.{TextReadsBack, ReadCanBeRead, StrippedCanBeRead, PrintReadsBack, InputIsOneGraph, PrintOfPrint};
 ghost use Rattle.graphiti.specs.Stripped.{HasStripped, IsOneStripped};
 ghost use Rattle.graphiti.specs.Strips.{TurnsEnd, TurnsStrip};
@@ -104,4 +105,11 @@ pub fn read_graph_fits()
 {
     reads_ports();
     rows_are_met();
+}
+
+/// The canonical document of a graph within the limits of reading can be printed, where the texts that it keeps can be quoted.
+pub fn canonical_document_prints()
+    ensures { CanonicalPrints }
+{
+    ports_are_shapes();
 }
