@@ -40,3 +40,4 @@ pub mod CanonicalGraph
 pub mod ReadNodes
 pub mod WrittenTexts
 pub mod WrittenDocument
+pub mod CanonicalTextBack

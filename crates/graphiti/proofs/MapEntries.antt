@@ -15,7 +15,7 @@ pub none_is : {A : Type 0} (o : Option A) (x : A) → o ≡ None → o ≡ Some 
 none_is None x none some = absurd (cc)
 none_is (Some y) x none some = absurd (cc)
 
-some_is : {A : Type 0} (x y : A) → ◌≡◌ {A = Option A} (Some x) (Some y) → x ≡ y
+pub some_is : {A : Type 0} (x y : A) → ◌≡◌ {A = Option A} (Some x) (Some y) → x ≡ y
 some_is x y e = cc
 
 or_true : (b : Bool) → (b || true) ≡ true

@@ -1,7 +1,7 @@
 //! Laws of the definitions that the contract of `run` speaks of.
 ghost use Rattle.graphiti.specs.Plain.{PlainIsOneGraph};
 ghost use Rattle.graphiti.specs.CanonicalReading.{CanonicalReadsBack, ReadFits};
-ghost use Rattle.graphiti.specs.CanonicalTexts.{CanonicalPrints};
+ghost use Rattle.graphiti.specs.CanonicalTexts.{CanonicalPrints, CanonicalTextReadsBack, ReadTexts};
 ghost use Rattle.graphiti.specs.ReadBack.{TextReadsBack, ReadCanBeRead, StrippedCanBeRead, PrintReadsBack, InputIsOneGraph, PrintOfPrint};
 ghost use Rattle.graphiti.specs.Stripped.{HasStripped, IsOneStripped};
 ghost use Rattle.graphiti.specs.Strips.{TurnsEnd, TurnsStrip};
@@ -99,9 +99,11 @@ pub fn canonical_document_reads_back()
     numbers_read_back();
 }
 
-/// In a graph that is read the values of Constants fit 64 bits, and no kept attribute is one that its kind owns.
+/// In a graph that is read the values of Constants fit 64 bits, no kept attribute is one that its kind owns, and each can be
+/// written where the texts of the document can.
 pub fn read_graph_fits()
-    ensures { ReadFits }
+    ensures fits { ReadFits }
+    ensures texts { ReadTexts }
 {
     reads_ports();
     rows_are_met();
@@ -112,4 +114,14 @@ pub fn canonical_document_prints()
     ensures { CanonicalPrints }
 {
     ports_are_shapes();
+}
+
+/// In the canonical text of such a graph a document stands that is read as the graph.
+pub fn canonical_text_reads_back()
+    ensures { CanonicalTextReadsBack }
+{
+    printed_document_stands();
+    printed_document_is_utf8();
+    canonical_document_reads_back();
+    canonical_document_prints();
 }
