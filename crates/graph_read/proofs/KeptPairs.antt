@@ -9,7 +9,7 @@ use Rattle.std.proofs.lemmas.List.{reverse-append, drop_more}
 use Rattle.std.proofs.lemmas.List.Elements.{filter-append, All-from_recursion}
 use Rattle.std.proofs.lemmas.Slice.Eq.{bytes_eq-Decides}
 use Rattle.graph_core.specs.declared.kind.Kind.{Kind}
-use Rattle.graph_core.specs.Name.{Name, name_cmp}
+use Rattle.graph_core.specs.Name.{Name}
 use Rattle.graph_core.specs.Node.{IsOwned, KeptOk, is_owned}
 use Rattle.graph_read.specs.Attributes.{Pair, last_value, kept_of}
 use Rattle.graph_read.specs.LastPairs.{last_pairs}

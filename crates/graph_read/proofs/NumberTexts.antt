@@ -1,16 +1,16 @@
 -- Numbers read as they are written.
-use Rattle.std.proofs.Common.{◌≡◌, ◌≢◌, ◌==◌, ◌&&◌, not, ℕ, zero, suc, ◌<◌, ◌≤◌, ◌^◌, Bool, true, false, cond, List, [], ◌∷◌, ◌++◌, length, get_or, take, drop, Option, Some, None, decimal, refl, sym, ap, ◌∙◌, arith, rules}
-use Rattle.std.specs.Prelude.{bytes_eq, nat_le, nat_lt, codes}
+use Rattle.std.proofs.Common.{◌≡◌, ◌==◌, ◌&&◌, ℕ, zero, suc, ◌<◌, ◌^◌, Bool, true, false, cond, List, [], ◌∷◌, ◌++◌, length, get_or, take, drop, Option, Some, None, decimal, refl, sym, ap, ◌∙◌, arith, rules}
+use Rattle.std.specs.Prelude.{bytes_eq, nat_le, codes}
 use Rattle.std.specs.Char.{is_ascii_digit, is_ascii_hexdigit, digit_value}
 use Rattle.std.specs.Fmt.{digits}
 use Rattle.std.specs.List.{list_all}
 use Rattle.std.specs.Str.Parse.{digits_value, AllDigits}
-use Rattle.std.proofs.lemmas.Bool.{and_from, and_parts, le-leb, true≢false}
+use Rattle.std.proofs.lemmas.Bool.{and_from, and_parts, le-leb}
 use Rattle.std.proofs.lemmas.Bool.Decides.{nat_tests}
 use Rattle.std.proofs.lemmas.Fmt.{decimal_digit, digits_decimal, digits_value-decimal, decimal_nonempty, first_decimal, digits_is_IsNumeral}
 use Rattle.std.proofs.lemmas.Str.Parse.{IsDigitsTest, IsNumeralModel, numerals_by_value}
 use Rattle.port_types.specs.PortGrammar.{is_numeral, text_behind}
-use Rattle.graph_read.specs.Attributes.{in_word, digits_of, value_behind, value_of, tags_of}
+use Rattle.graph_read.specs.Attributes.{in_word, digits_of, value_behind}
 use Rattle.graph_read.specs.Laws.{DecimalValues, HexadecimalValues, DecimalTags}
 use Rattle.graph_read.proofs.Numbers.{word_some}
 

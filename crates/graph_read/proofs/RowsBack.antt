@@ -1,5 +1,5 @@
 -- What meets a row is read.
-use Rattle.std.proofs.Common.{◌≡◌, ◌⊎◌, inl, inr, ℕ, zero, suc, ◌==◌, ◌&&◌, ◌≤◌, ◌^◌, Bool, true, false, cond, List, [], ◌∷◌, ◌++◌, length, map, replicate, Option, Some, None, Result, Ok, Err, refl, sym, ap, subst, ◌∙◌, arith}
+use Rattle.std.proofs.Common.{◌≡◌, ◌⊎◌, inl, inr, ℕ, zero, suc, ◌&&◌, ◌≤◌, ◌^◌, Bool, true, false, cond, List, [], ◌∷◌, length, map, replicate, Option, Some, None, Ok, refl, sym, ap, ◌∙◌, arith}
 use Rattle.std.specs.Prelude.{bytes_eq, nat_le, codes}
 use Rattle.std.specs.List.{concat}
 use Rattle.std.proofs.lemmas.Bool.{le-leb, eq-eqb, and_from}
@@ -7,17 +7,16 @@ use Rattle.std.proofs.lemmas.List.{length-replicate}
 use Rattle.std.proofs.lemmas.Slice.Eq.{bytes_eq-Decides}
 use Rattle.op_table.specs.declared.op.Op.{Op}
 use Rattle.op_table.specs.Operator.{graph_word}
-use Rattle.op_table.specs.Table.{op_named, is_typed_op}
+use Rattle.op_table.specs.Table.{is_typed_op}
 use Rattle.op_table.specs.Laws.{NamesAreFound, WidthsAreTested}
 use Rattle.port_types.specs.Tag.{tag_width}
 use Rattle.graph_core.specs.declared.kind.Kind.{Kind}
 use Rattle.graph_core.specs.declared.kind.Kind.TheVariants.{Entry, Exit, Buffer, Fork, Join, Split, Operator, Constant, Source0, Sink0, Mux, Branch, Merge, CtrlMerge, Init, Tagger}
-use Rattle.graph_core.specs.Kind.{Shape, field, tagged, ins, outs, KindOk}
+use Rattle.graph_core.specs.Kind.{Shape, field, tagged, ins, outs}
 use Rattle.graph_read.specs.declared.component.Component.{Component}
-use Rattle.graph_read.specs.declared.component.Component as component
 use Rattle.graph_read.specs.Attributes.{Pair, last_value, value_of, tags_of}
-use Rattle.graph_read.specs.Rows.{Reading, where_ports, entry_at, exit_at, all_are, are_fields, fork_at, merge_at, ctrl_merge_at, operator_named, operator_typed, operator_at, constant_of, constant_with, init_with, init_marked, start_of, mark_of, tagger_of, tagger_with, row_reading}
-use Rattle.graph_read.specs.Laws.{MeetsRow, HasPorts, Says, component_at, RowsReadBack}
+use Rattle.graph_read.specs.Rows.{where_ports, entry_at, exit_at, all_are, are_fields, fork_at, merge_at, ctrl_merge_at, operator_named, operator_typed, operator_at, constant_of, constant_with, init_with, init_marked, start_of, mark_of, tagger_of, tagger_with, row_reading}
+use Rattle.graph_read.specs.Laws.{MeetsRow, component_at, RowsReadBack}
 
 -- ---- tests that hold
 

@@ -1,26 +1,21 @@
 -- A kind that is read meets its row.
-use Rattle.std.proofs.Common.{◌≡◌, ◌⊎◌, inl, inr, ℕ, zero, suc, ◌==◌, ◌&&◌, ◌^◌, ◌≤◌, Bool, true, false, cond, List, [], ◌∷◌, ◌++◌, length, map, replicate, Option, Some, None, Result, Ok, Err, refl, sym, ap, subst, ◌∙◌, arith}
-use Rattle.std.specs.Prelude.{bytes_eq, nat_le, All, codes}
-use Rattle.std.specs.List.{list_all, concat}
-use Rattle.std.proofs.lemmas.Bool.{leb-true, eqb-true, and_parts}
-use Rattle.std.proofs.lemmas.List.Elements.{All-head, All-tail, All-cons}
+use Rattle.std.proofs.Common.{◌≡◌, inl, inr, ◌&&◌, ◌^◌, ◌≤◌, Bool, true, false, List, [], ◌∷◌, length, replicate, Ok, Err, refl, ap, subst, arith}
+use Rattle.std.specs.Prelude.{bytes_eq, nat_le}
+use Rattle.std.specs.List.{concat}
+use Rattle.std.proofs.lemmas.Bool.{leb-true, and_parts}
+use Rattle.std.proofs.lemmas.List.Elements.{All-head, All-tail}
 use Rattle.std.proofs.lemmas.Slice.Eq.{bytes_eq-Decides}
-use Rattle.op_table.specs.declared.op.Op.{Op}
-use Rattle.op_table.specs.Operator.{graph_word}
-use Rattle.op_table.specs.Table.{op_named, is_typed_op}
-use Rattle.op_table.specs.Laws.{NamesAreFound, WidthsAreTested}
 use Rattle.port_types.specs.Shape.{IsShape}
-use Rattle.port_types.specs.Tag.{tag_width}
 use Rattle.graph_core.specs.declared.kind.Kind.{Kind}
 use Rattle.graph_core.specs.declared.kind.Kind as kind
-use Rattle.graph_core.specs.Kind.{Shape, field, KindOk, AreParts}
+use Rattle.graph_core.specs.Kind.{Shape, field, AreParts}
 use Rattle.graph_read.specs.declared.component.Component.{Component}
 use Rattle.graph_read.specs.declared.component.Component as component
 use Rattle.graph_read.specs.declared.fault.GraphFaultKind.{GraphFaultKind}
 use Rattle.graph_read.specs.declared.fault.GraphFaultKind.TheVariants.{BadPorts}
-use Rattle.graph_read.specs.Attributes.{Pair, last_value, value_of, tags_of, digits_of}
+use Rattle.graph_read.specs.Attributes.{Pair}
 use Rattle.graph_read.specs.Rows.{Reading, where_ports, all_are, entry_at, exit_at, buffer_at, fork_at, join_at, split_at, source_at, sink_at, mux_at, branch_at, merge_at, ctrl_merge_at}
-use Rattle.graph_read.specs.Laws.{MeetsRow, AreRead, component_at, HasPorts, Says}
+use Rattle.graph_read.specs.Laws.{MeetsRow, AreRead}
 
 -- ---- answers
 

@@ -1,5 +1,5 @@
 -- The node of a statement, or the first thing that is wrong with it.
-use Rattle.std.specs.Prelude.{◌≡◌, ℕ, Bool, true, false, not, ◌&&◌, ◌||◌, ◌==◌, nat_le, nat_lt, List, [], ◌∷◌, length, map, Option, Some, None, Result, Ok, Err, bytes_eq, codes, if◌then◌else◌}
+use Rattle.std.specs.Prelude.{ℕ, Bool, false, not, ◌&&◌, ◌||◌, ◌==◌, nat_le, List, [], length, map, Option, Some, None, Result, Ok, Err, bytes_eq, codes, if◌then◌else◌}
 use Rattle.std.specs.List.{list_all, list_any}
 use Rattle.port_types.specs.declared.port.Port.{Port}
 use Rattle.port_types.specs.declared.port.PortFault.{PortFault}
@@ -8,7 +8,6 @@ use Rattle.port_types.specs.declared.side.Side.TheVariants.{Ins, Outs}
 use Rattle.port_types.specs.PortText.{side_word}
 use Rattle.port_types.specs.PortGrammar.{reading}
 use Rattle.dot_text.specs.declared.doc.DocNode.{DocNode}
-use Rattle.graph_core.specs.declared.kind.Kind.{Kind}
 use Rattle.graph_core.specs.Kind.{Shape}
 use Rattle.graph_core.specs.Name.{Name}
 use Rattle.graph_core.specs.Node.{Body}

@@ -1,4 +1,4 @@
-use Rattle.std.proofs.Common.{◌≡◌, List, sym, map}
+use Rattle.std.proofs.Common.{map}
 use Rattle.std.proofs.lemmas.List.Elements.{All-map, All-same}
 use Rattle.port_types.specs.Shape.{IsShape}
 use Rattle.port_types.specs.declared.port.Port.{Port}
