@@ -21,7 +21,7 @@ KeptTexts P g = (name : Name) (body : Body) (key value : List ℕ) → map.get g
 abbrev pub CanonicalPrints : Type 0
 CanonicalPrints = (g : NamedGraph) → CanBeReadBack g → KeptTexts CanBeQuoted g → KeptTexts IsUtf8 g → DocPrints (canonical_document g) × DocTexts IsUtf8 (canonical_document g)
 
--- the document that stands in the canonical text is read as the graph
+-- in the canonical text one document stands, with nothing behind it but blanks, and it is read as the graph
 abbrev pub CanonicalTextReadsBack : Type 0
 CanonicalTextReadsBack = (g : NamedGraph) → CanBeReadBack g → KeptTexts CanBeQuoted g → KeptTexts IsUtf8 g →
     (document : Doc) × HoldsDocument (text_of g) document × (graph_reading document ≡ Ok g)
