@@ -8,6 +8,7 @@ pub mod Known
 pub mod PortLists
 pub mod PortFields
 pub mod PortShapes
+pub mod PortCounts
 pub mod SlotLists
 pub mod WireLists
 pub mod Finding

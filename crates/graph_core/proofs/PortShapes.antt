@@ -1,5 +1,5 @@
 -- AllByRecursion port of a kind that meets its row has a shape.
-use Rattle.std.proofs.Common.{◌≡◌, ◌∙◌, ℕ, zero, suc, ◌^◌, ◌≤◌, ◌<◌, List, [], ◌∷◌, length, get_or, map, replicate, Option, Some, None, refl, sym, ap, subst, arith}
+use Rattle.std.proofs.Common.{◌≡◌, ℕ, zero, suc, ◌≤◌, List, [], ◌∷◌, length, map, replicate, Some, sym, subst, arith}
 use Rattle.std.specs.Prelude.{All}
 use Rattle.std.specs.List.{AllByRecursion, concat}
 use Rattle.std.proofs.lemmas.List.{length-append}
@@ -97,7 +97,7 @@ operands (w ∷ widths) each = (field_shape w each.0, operands widths each.1)
 one : IsShape (field 1)
 one = field_shape 1 (omega arith)
 
-ins_ok : (kind : Kind) → KindOk kind → AllByRecursion IsShape (ins kind)
+pub ins_ok : (kind : Kind) → KindOk kind → AllByRecursion IsShape (ins kind)
 ins_ok (Entry shape) ok = tt
 ins_ok (Exit shape) ok = (ok, tt)
 ins_ok (Buffer shape) ok = (ok, tt)
@@ -115,7 +115,7 @@ ins_ok (CtrlMerge shape count width) ok = each_same IsShape count shape ok.0
 ins_ok (Init value mark) ok = (one, tt)
 ins_ok (Tagger shape tags) ok = (ok.0, (ok.1, tt))
 
-outs_ok : (kind : Kind) → KindOk kind → AllByRecursion IsShape (outs kind)
+pub outs_ok : (kind : Kind) → KindOk kind → AllByRecursion IsShape (outs kind)
 outs_ok (Entry shape) ok = (ok, tt)
 outs_ok (Exit shape) ok = tt
 outs_ok (Buffer shape) ok = (ok, tt)

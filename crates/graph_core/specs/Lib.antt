@@ -8,3 +8,4 @@ pub mod Wiring
 pub mod Inside
 pub mod OpenPorts
 pub mod Fields
+pub mod Laws

@@ -13,6 +13,7 @@ mod graph;
 mod kind;
 #[cfg(test)]
 mod kind_tests;
+mod laws;
 mod name;
 mod node;
 mod owned;
@@ -26,6 +27,7 @@ mod wires;
 
 pub use graph::{AddNode, AddWire, Graph, PortOpen, check_typed};
 pub use kind::{Kind, inputs, kind_ok, outputs};
+pub use laws::ports_are_shapes;
 pub use name::is_name;
 pub use node::Node;
 pub use owned::owns;

@@ -29,3 +29,16 @@ pub mod CanonicalPairs
 pub mod CanonicalDocument
 pub mod ReadTexts
 pub mod StrippedTexts
+pub mod MapEntries
+pub mod EdgesBack
+pub mod PortsClosed
+pub mod NodesBack
+pub mod PairsBack
+pub mod PortsBack
+pub mod BodiesBack
+pub mod PortNames
+pub mod CanonicalGraph
+pub mod ReadNodes
+pub mod WrittenTexts
+pub mod WrittenDocument
+pub mod CanonicalTextBack

@@ -9,3 +9,5 @@ pub mod PlainParts
 pub mod Input
 pub mod ReadBack
 pub mod Answer
+pub mod CanonicalReading
+pub mod CanonicalTexts

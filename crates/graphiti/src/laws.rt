@@ -1,5 +1,7 @@
 //! Laws of the definitions that the contract of `run` speaks of.
 ghost use Rattle.graphiti.specs.Plain.{PlainIsOneGraph};
+ghost use Rattle.graphiti.specs.CanonicalReading.{CanonicalReadsBack, ReadFits};
+ghost use Rattle.graphiti.specs.CanonicalTexts.{CanonicalPrints, CanonicalTextReadsBack, ReadTexts};
 ghost use Rattle.graphiti.specs.ReadBack.{TextReadsBack, ReadCanBeRead, StrippedCanBeRead, PrintReadsBack, InputIsOneGraph, PrintOfPrint};
 ghost use Rattle.graphiti.specs.Stripped.{HasStripped, IsOneStripped};
 ghost use Rattle.graphiti.specs.Strips.{TurnsEnd, TurnsStrip};
@@ -8,10 +10,13 @@ ghost use Rattle.graphiti.specs.Behaviour.{StrippedDrains, StrippedIsRefined, St
 use dot_text::{
     one_document, printed_document_is_utf8, printed_document_stands, standing_document_prints,
 };
+use graph_core::ports_are_shapes;
+use graph_read::{numbers_read_back, rows_are_met, rows_read_back};
 use module_sem::{
     buffer_keeps_drains, graph_buffer_shows_nothing, graph_typed_as_circuit, refines_in_steps,
     refines_itself,
 };
+use port_types::{reads_back, reads_ports};
 
 /// A plain document is one graph alone.
 pub fn plain_is_one_graph()
@@ -81,4 +86,42 @@ pub fn stripped_drains()
     ensures { StrippedDrains }
 {
     buffer_keeps_drains();
+}
+
+/// The canonical document of a graph within the limits of reading is read as that graph.
+pub fn canonical_document_reads_back()
+    ensures { CanonicalReadsBack }
+{
+    ports_are_shapes();
+    reads_ports();
+    reads_back();
+    rows_read_back();
+    numbers_read_back();
+}
+
+/// In a graph that is read the values of Constants fit 64 bits, no kept attribute is one that its kind owns, and each can be
+/// written where the texts of the document can.
+pub fn read_graph_fits()
+    ensures fits { ReadFits }
+    ensures texts { ReadTexts }
+{
+    reads_ports();
+    rows_are_met();
+}
+
+/// The canonical document of a graph within the limits of reading can be printed, where the texts that it keeps can be quoted.
+pub fn canonical_document_prints()
+    ensures { CanonicalPrints }
+{
+    ports_are_shapes();
+}
+
+/// In the canonical text of such a graph a document stands that is read as the graph.
+pub fn canonical_text_reads_back()
+    ensures { CanonicalTextReadsBack }
+{
+    printed_document_stands();
+    printed_document_is_utf8();
+    canonical_document_reads_back();
+    canonical_document_prints();
 }

@@ -1,0 +1,100 @@
+-- The node statements of a canonical document are read as the nodes of the graph.
+use Rattle.std.proofs.Common.{◌≡◌, ◌≢◌, ℕ, ◌+◌, ◌≤◌, Bool, true, false, cond, not, ◌||◌, T, List, [], ◌∷◌, ◌++◌, length, map, Option, Some, None, Ok, Err, refl, sym, ap, subst, ◌∙◌, arith, length-append}
+use Rattle.std.specs.Prelude.{bytes_eq, nat_le}
+use Rattle.std.specs.List.{AllByRecursion, list_any, list_all}
+use Rattle.std.specs.FinMap as map_of
+use Rattle.std.specs.FinMap.Entries.{find, is_sorted}
+use Rattle.std.proofs.lemmas.Bool.{le-leb, and_from, false_from_ne_true}
+use Rattle.std.proofs.lemmas.Bool.Decides.{nat_tests}
+use Rattle.std.proofs.lemmas.List.{append_assoc}
+use Rattle.std.proofs.lemmas.List.Elements.{All-weaker}
+use Rattle.std.proofs.lemmas.List.Sums.{list_all-from_AllPass}
+use Rattle.std.proofs.lemmas.Slice.Eq.{bytes_eq-Decides}
+use Rattle.graph_core.specs.Name.{Name, name_cmp, IsName, IsNameByte}
+use Rattle.graph_core.specs.Node.{Body}
+use Rattle.graph_core.specs.NamedGraph.{NamedGraph, IsNamed}
+use Rattle.graph_print.specs.CanonicalText.{pairs_of, node_entry}
+use Rattle.graph_read.specs.declared.fault.GraphFaultKind.TheVariants.{BadName, NameTaken, TooMany}
+use Rattle.graph_read.specs.NodeReading.{NodeReading, is_name, is_name_byte, body_reading, within_limit, node_reading}
+use Rattle.graph_read.specs.GraphReading.{then_nodes, nodes_reading}
+use Rattle.graphiti.proofs.EntryLists as lists
+use Rattle.graphiti.proofs.Lookups.{name_total}
+use Rattle.graphiti.proofs.MapEntries.{none_is}
+
+-- ---- the tests of a node
+
+name_byte : (byte : ℕ) → IsNameByte byte → is_name_byte byte ≡ true
+name_byte byte ok = grind (arith, nat_tests)
+
+name_passes : (name : Name) → IsName name → is_name name ≡ true
+name_passes name ok =
+    and_from _ _ (and_from _ _ (le-leb 1 (length name) ok.some) (le-leb (length name) 255 ok.few))
+    (list_all-from_AllPass is_name_byte name (All-weaker IsNameByte (λ byte. is_name_byte byte ≡ true) name_byte name ok.bytes))
+
+-- where each test passes, the node is what its pairs say
+node_passes : (name taken few : Bool) (read : NodeReading) (body : Body) → name ≡ true → taken ≡ false → few ≡ true → read ≡ Ok body →
+    (place : ℕ) → nat_le place 65536 ≡ few → cond (not name) (Err BadName) (cond taken (Err NameTaken) (within_limit place read)) ≡ Ok body
+node_passes name taken few read body named free small is place test =
+    (λ i. cond (not (named i)) (Err BadName) (cond (free i) (Err NameTaken) (within_limit place (is i)))) ∙ ap (λ t. cond t (Ok body) (Err TooMany)) (test ∙ small)
+
+-- ---- all nodes
+
+-- each node's pairs say its body
+abbrev pub SaysBodies : NamedGraph → Type 0
+SaysBodies g = (name : Name) (body : Body) → map_of.get g.nodes name ≡ Some body → body_reading (pairs_of body) ≡ Ok body
+
+-- each of these names is that of an entry
+abbrev AreNamesOf : List (Name × Body) → List Name → Type 0
+AreNamesOf nodes names = AllByRecursion (λ name. find name_cmp name nodes ≢ None) names
+
+module _ (g : NamedGraph) (named : IsNamed g) (says : SaysBodies g) (few : map_of.len g.nodes ≤ 65536) where
+  module _ (before : List (Name × Body)) (node : Name × Body) (after : List (Name × Body)) (whole : map_of.entries g.nodes ≡ before ++ node ∷ after) where
+    sorted : T (is_sorted name_cmp (before ++ node ∷ after))
+    sorted = subst (λ (es : List (Name × Body)). T (is_sorted name_cmp es)) whole (map_of.entries_sorted g.nodes)
+
+    there : map_of.get g.nodes node.0 ≡ Some node.1
+    there = map_of.get-entries g.nodes node.0 ∙ ap (find name_cmp node.0) whole ∙ lists.find_here name_cmp name_total before node after sorted
+
+    not_taken : (names : List Name) → AreNamesOf before names → list_any (bytes_eq node.0) names ≡ false
+    not_taken [] are = refl
+    not_taken (name ∷ names) are =
+        let other : bytes_eq node.0 name ≡ false =
+        false_from_ne_true (bytes_eq node.0 name) (λ test. are.0 (ap (λ (n : Name). find name_cmp n before) (sym ((bytes_eq-Decides node.0 name).0 test)) ∙ lists.find_before name_cmp name_total before node after sorted)) in
+        (λ i. other i || list_any (bytes_eq node.0) names) ∙ not_taken names are.1
+
+    in_limit : length before + 1 ≤ 65536
+    in_limit = omega (arith, few, map_of.len-entries g.nodes, ap length whole, length-append before (node ∷ after))
+
+    is_read : (names : List Name) → AreNamesOf before names → (place : ℕ) → place ≡ length before + 1 → node_reading names place (node_entry node) ≡ Ok node.1
+    is_read names are place at =
+        node_passes (is_name node.0) (list_any (bytes_eq node.0) names) true (body_reading (pairs_of node.1)) node.1 (name_passes node.0 (named node.0 node.1 there))
+        (not_taken names are) refl (says node.0 node.1 there) place (le-leb place 65536 (omega (arith, at, in_limit)))
+
+  -- the names so far, with one more
+  still : (before : List (Name × Body)) (node : Name × Body) (names : List Name) → AreNamesOf before names → AreNamesOf (before ++ node ∷ []) names
+  still before node [] are = tt
+  still before node (name ∷ names) are = (λ none. are.0 (front_none (find name_cmp name before) (find name_cmp name (node ∷ [])) (sym (lists.find-append name_cmp name before (node ∷ [])) ∙ none)), still before node names are.1)
+    where
+      front_none : {A : Type 0} (o p : Option A) → Rattle.std.specs.Option.option_or o p ≡ None → o ≡ None
+      front_none None p e = refl
+      front_none (Some x) p e = e
+
+  last_is_there : (before : List (Name × Body)) (node : Name × Body) → find name_cmp node.0 (before ++ node ∷ []) ≢ None
+  last_is_there [] node none = none_is (find name_cmp node.0 (node ∷ [])) node.1 none (lists.find_first name_cmp name_total node [])
+  last_is_there (e ∷ before) node none = last_is_there before node (behind_none (Rattle.std.specs.Ordering.eq_by_cmp name_cmp node.0 e.0) e.1 (find name_cmp node.0 (before ++ node ∷ [])) none)
+    where
+      behind_none : {A : Type 0} (b : Bool) (x : A) (p : Option A) → cond b (Some x) p ≡ None → p ≡ None
+      behind_none true x p e = absurd (none_is (Some x) x e refl)
+      behind_none false x p e = e
+
+  nodes_from : (before after : List (Name × Body)) (names : List Name) (place : ℕ) → map_of.entries g.nodes ≡ before ++ after → AreNamesOf before names →
+      place ≡ length before + 1 → nodes_reading names place (map node_entry after) ≡ Ok after
+  nodes_from before [] names place whole are at = refl
+  nodes_from before (node ∷ after) names place whole are at =
+      let later : nodes_reading (node.0 ∷ names) (place + 1) (map node_entry after) ≡ Ok after =
+      nodes_from (before ++ node ∷ []) after (node.0 ∷ names) (place + 1) (whole ∙ sym (append_assoc before (node ∷ []) after))
+      (last_is_there before node, still before node names are) (omega (arith, at, length-append before (node ∷ []))) in
+      λ i. then_nodes place node.0 (is_read before node after whole names are place at i) (later i)
+
+  pub nodes_back : nodes_reading [] 1 (map node_entry (map_of.entries g.nodes)) ≡ Ok (map_of.entries g.nodes)
+  nodes_back = nodes_from [] (map_of.entries g.nodes) [] 1 refl tt refl
