@@ -78,9 +78,19 @@ pub(crate) fn push_own(
 {
     match kind {
         Kind::Operator(op, ..) => push_pair(alloc, pairs, "op", text_from(alloc, op_name(*op))?),
-        Kind::Constant(_, _, value) => push_pair(alloc, pairs, "value", hexadecimal(alloc, *value)?),
+        Kind::Constant(_, _, value) => push_pair(
+            alloc,
+            pairs,
+            "value",
+            hexadecimal(alloc, *value)?,
+        ),
         Kind::Init(value, mark) => {
-            push_pair(alloc, pairs, "value", hexadecimal(alloc, u64::from(*value))?)?;
+            push_pair(
+                alloc,
+                pairs,
+                "value",
+                hexadecimal(alloc, u64::from(*value))?,
+            )?;
             push_mark(alloc, pairs, *mark)
         }
         Kind::Tagger(_, tags) => push_pair(alloc, pairs, "tags", decimal(alloc, *tags)?),

@@ -88,9 +88,9 @@ pairs_written body right one kept =
     let type : W first = (simple_written (codes "type") refl, simple_written (kind_word body.kind) (word_simple body.kind)) in
     let front : EachOf W (first ∷ inputs) = (type, side_written Ins (ins body.kind) (ports_simple body.kind Ins right one)) in
     subst (EachOf W) (sym (plain_pairs body one)) (
-      each_append W ((first ∷ inputs ++ outputs) ++ []) (map_of.entries body.kept)
-      (each_append W (first ∷ inputs ++ outputs) [] (each_append W (first ∷ inputs) outputs front (side_written Outs (outs body.kind) (ports_simple body.kind Outs right one))) tt)
-      kept
+    each_append W ((first ∷ inputs ++ outputs) ++ []) (map_of.entries body.kept)
+    (each_append W (first ∷ inputs ++ outputs) [] (each_append W (first ∷ inputs) outputs front (side_written Outs (outs body.kind) (ports_simple body.kind Outs right one))) tt)
+    kept
     )
 
 -- ---- in the words of the laws of documents

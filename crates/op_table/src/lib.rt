@@ -22,7 +22,8 @@ mod word;
 
 pub use laws::{
     digits_by_place, names_differ, readings_come_back, shifts_round_down, signed_division,
-    sums_come_back, tests_are_the_table, typed_widths_are_few, unsigned_division, value_fits, widths_come_back,
+    sums_come_back, tests_are_the_table, typed_widths_are_few, unsigned_division, value_fits,
+    widths_come_back,
 };
 pub use op::{Op, op_name, op_of, op_of_short, short_name};
 pub use typing::typed_op;
