@@ -1,5 +1,5 @@
 -- What stands at a port of a list.
-use Rattle.std.proofs.Common.{◌≡◌, ◌∙◌, ap, ℕ, zero, suc, ◌-◌, ◌≤◌, ◌<◌, List, [], ◌∷◌, length, get_or, map, Option, Some, None, IsSome, replicate, refl, sym, true≢false, arith}
+use Rattle.std.proofs.Common.{◌≡◌, ◌∙◌, ap, ℕ, zero, suc, ◌-◌, ◌≤◌, ◌<◌, List, [], ◌∷◌, length, get_or, map, Some, IsSome, replicate, refl, sym, true≢false, arith}
 use Rattle.std.specs.Option.{option_map}
 use Rattle.graph_core.specs.Name.{port_get}
 

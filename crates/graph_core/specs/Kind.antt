@@ -1,5 +1,5 @@
 -- The table of components: what each kind of node has at its ports.
-use Rattle.std.specs.Prelude.{◌≡◌, ℕ, ◌^◌, ◌≤◌, List, [], ◌∷◌, map, replicate, length, All}
+use Rattle.std.specs.Prelude.{ℕ, ◌^◌, ◌≤◌, List, [], ◌∷◌, map, replicate, length, All}
 use Rattle.std.specs.List.{concat}
 use Rattle.op_table.specs.Operator.{IsTypedOp}
 use Rattle.port_types.specs.Shape.{IsShape}

@@ -1,5 +1,5 @@
 -- Nodes: what add_node asks of them, and a node without its name.
-use Rattle.std.specs.Prelude.{◌≡◌, ◌≢◌, ℕ, Bool, IsTrue, List, [], ◌∷◌, codes, bytes_eq, All, AllPairs}
+use Rattle.std.specs.Prelude.{◌≢◌, ℕ, Bool, IsTrue, List, [], ◌∷◌, codes, bytes_eq, All, AllPairs}
 use Rattle.std.specs.List.{list_any}
 use Rattle.std.specs.FinMap.{FinMap, from_entries}
 use Rattle.graph_core.specs.declared.kind.Kind.{Kind}

@@ -12,7 +12,7 @@ use Rattle.graph_core.specs.declared.kind.Kind.{Kind}
 use Rattle.graph_core.specs.declared.kind.Kind.TheVariants.{Operator, Mux, Branch, CtrlMerge}
 use Rattle.graph_core.specs.Kind.{Shape}
 use Rattle.graph_core.specs.Name.{port_get}
-use Rattle.graph_print.specs.CanonicalText.{PrintedPort, condition, yes, no, marker, operand_marker, select_marker, marked_from}
+use Rattle.graph_print.specs.CanonicalText.{PrintedPort, condition, yes, no, marker, operand_marker, marked_from}
 
 either : (b : Bool) (x y : Option ℕ) → is_marker_or_none x ≡ true → is_marker_or_none y ≡ true → is_marker_or_none (if b then x else y) ≡ true
 either true x y p q = p

@@ -14,7 +14,6 @@ use Rattle.dot_text.specs.Blanks.{Blanks.none as no_blank, Blanks.skip, FirstByt
 use Rattle.dot_text.specs.Grammar.{Pair}
 use Rattle.dot_text.specs.Printing.{printed, EachOf, PairPrints, NodePrints, EdgePrints, DocPrints}
 use Rattle.dot_text.specs.Texts.{PairTexts, NodeTexts, EdgeTexts, DocTexts}
-use Rattle.graph_core.specs.declared.kind.Kind.{Kind}
 use Rattle.graph_core.specs.Name.{Name, Port, name_cmp, port_cmp, port_get, IsName, IsNameByte}
 use Rattle.graph_core.specs.Kind.{Shape, ins, outs, KindOk}
 use Rattle.graph_core.specs.Node.{Body}

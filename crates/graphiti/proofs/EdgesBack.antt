@@ -13,10 +13,10 @@ use Rattle.port_types.specs.PortText.{port_name}
 use Rattle.graph_core.specs.Name.{Name, Port, port_cmp, port_get}
 use Rattle.graph_core.specs.Kind.{Shape, ports}
 use Rattle.graph_core.specs.Node.{Body}
-use Rattle.graph_core.specs.NamedGraph.{NamedGraph, IsTyped, IsWire, with_wire}
+use Rattle.graph_core.specs.NamedGraph.{NamedGraph, IsTyped, IsWire, with_wire, is_wired}
 use Rattle.graph_print.specs.CanonicalText.{edge_entry}
 use Rattle.graph_read.specs.declared.fault.GraphFaultKind.TheVariants.{PortTaken, ShapeDiffers}
-use Rattle.graph_read.specs.GraphReading.{NamedWire, port_named, feeds, wire_between, edge_between, edge_reading, edges_reading, then_edges}
+use Rattle.graph_read.specs.GraphReading.{NamedWire, port_there, wire_between, edge_between, edge_reading, edges_reading, then_read}
 use Rattle.graphiti.proofs.EntryLists as lists
 use Rattle.graphiti.proofs.Lookups.{port_total, port_same}
 use Rattle.graphiti.proofs.MapEntries.{none_is, none_passes, each_entry}
@@ -42,7 +42,7 @@ not_taken a b wire same none also is = λ i. cond (none i || also i) (Err PortTa
 abbrev pub NamesPorts : NamedGraph → Type 0
 NamesPorts g =
     (side : Side) (name : Name) (body : Body) (number : ℕ) (shape : Shape) → map_of.get g.nodes name ≡ Some body →
-    port_get (ports body.kind side) number ≡ Some shape → port_named side name body (Some (port_name side number)) ≡ Some (record { node = name; port = number }, shape)
+    port_get (ports body.kind side) number ≡ Some shape → port_there side name body (Some (port_name side number)) ≡ Some (record { node = name; port = number }, shape)
 
 module _ (g : NamedGraph) (typed : IsTyped g) (named : NamesPorts g) where
   abbrev with_wires : List Wire → NamedGraph
@@ -76,7 +76,7 @@ module _ (g : NamedGraph) (typed : IsTyped g) (named : NamesPorts g) where
         let also : map_of.get g.feeders q ≡ Some source = found_whole q source (lists.find-append port_cmp q before (wire ∷ after) ∙ ap (λ f. option_or f (find port_cmp q (wire ∷ after))) found ∙ ap (λ (s : Port). Some s) is) in
         none_is (find port_cmp q before) p (ap (λ (t : Port). find port_cmp t before) (typed.once q target source also here) ∙ new_target) found
 
-    source_free : feeds (with_wires before) source ≡ false
+    source_free : is_wired (with_wires before) Outs source ≡ false
     source_free =
         let made = (with_wires before).feeders in
         none_passes (of_source source) (map_of.entries made)
@@ -91,14 +91,14 @@ module _ (g : NamedGraph) (typed : IsTyped g) (named : NamesPorts g) where
         let into = named Ins target.node right.to target.port right.shape right.is_to right.enters in
         (λ i. edge_between (with_wires before) (edge_entry wire) (right.is_from i) (right.is_to i))
         ∙ (λ i. wire_between (with_wires before) (out i) (into i))
-        ∙ not_taken (is_some (map_of.get (with_wires before).feeders target)) (feeds (with_wires before) source) (record { source = source; target = target })
+        ∙ not_taken (is_some (map_of.get (with_wires before).feeders target)) (is_wired (with_wires before) Outs source) (record { source = source; target = target })
         (bytes_eq right.shape right.shape) (ap is_some target_free) source_free ((bytes_eq-Decides right.shape right.shape).1 refl)
 
   pub edges_back : (before after : List Wire) (place : ℕ) → map_of.entries g.feeders ≡ before ++ after → edges_reading (with_wires before) place (map edge_entry after) ≡ Ok (with_wires (before ++ after))
   edges_back before [] place whole = ap (λ (ws : List Wire). Ok (with_wires ws)) (sym (append-nil before))
   edges_back before (wire ∷ after) place whole =
       let more : before ++ wire ∷ after ≡ (before ++ wire ∷ []) ++ after = sym (append_assoc before (wire ∷ []) after) in
-      ap (λ r. then_edges place wire.0.node r (λ w. edges_reading (with_wire (with_wires before) w.source w.target) (place + 1) (map edge_entry after))) (is_read before wire after whole)
+      ap (λ r. then_read place wire.0.node r (λ w. edges_reading (with_wire (with_wires before) w.source w.target) (place + 1) (map edge_entry after))) (is_read before wire after whole)
       ∙ ap (λ fs. edges_reading (record { nodes = g.nodes; feeders = fs }) (place + 1) (map edge_entry after)) (sym (map_of.from_entries_push port_total port_same before wire.0 wire.1 (new_target before wire after whole)))
       ∙ edges_back (before ++ wire ∷ []) after (place + 1) (whole ∙ more)
       ∙ ap (λ (ws : List Wire). Ok (with_wires ws)) (sym more)

@@ -6,7 +6,7 @@ use Rattle.std.specs.FinMap as map_of
 use Rattle.std.specs.FinMap.Entries.{find, is_sorted}
 use Rattle.std.proofs.lemmas.Bool.{le-leb, and_from, false_from_ne_true}
 use Rattle.std.proofs.lemmas.Bool.Decides.{nat_tests}
-use Rattle.std.proofs.lemmas.List.{append_assoc}
+use Rattle.std.proofs.lemmas.List.{append-nil, append_assoc, map-append}
 use Rattle.std.proofs.lemmas.List.Elements.{All-weaker}
 use Rattle.std.proofs.lemmas.List.Sums.{list_all-from_AllPass}
 use Rattle.std.proofs.lemmas.Slice.Eq.{bytes_eq-Decides}
@@ -16,7 +16,7 @@ use Rattle.graph_core.specs.NamedGraph.{NamedGraph, IsNamed}
 use Rattle.graph_print.specs.CanonicalText.{pairs_of, node_entry}
 use Rattle.graph_read.specs.declared.fault.GraphFaultKind.TheVariants.{BadName, NameTaken, TooMany}
 use Rattle.graph_read.specs.NodeReading.{NodeReading, is_name, is_name_byte, body_reading, within_limit, node_reading}
-use Rattle.graph_read.specs.GraphReading.{then_nodes, nodes_reading}
+use Rattle.graph_read.specs.GraphReading.{then_read, names_of, nodes_reading}
 use Rattle.graphiti.proofs.EntryLists as lists
 use Rattle.graphiti.proofs.Lookups.{name_total}
 use Rattle.graphiti.proofs.MapEntries.{none_is}
@@ -87,14 +87,22 @@ module _ (g : NamedGraph) (named : IsNamed g) (says : SaysBodies g) (few : map_o
       behind_none true x p e = absurd (none_is (Some x) x e refl)
       behind_none false x p e = e
 
-  nodes_from : (before after : List (Name × Body)) (names : List Name) (place : ℕ) → map_of.entries g.nodes ≡ before ++ after → AreNamesOf before names →
-      place ≡ length before + 1 → nodes_reading names place (map node_entry after) ≡ Ok after
-  nodes_from before [] names place whole are at = refl
-  nodes_from before (node ∷ after) names place whole are at =
-      let later : nodes_reading (node.0 ∷ names) (place + 1) (map node_entry after) ≡ Ok after =
-      nodes_from (before ++ node ∷ []) after (node.0 ∷ names) (place + 1) (whole ∙ sym (append_assoc before (node ∷ []) after))
-      (last_is_there before node, still before node names are) (omega (arith, at, length-append before (node ∷ []))) in
-      λ i. then_nodes place node.0 (is_read before node after whole names are place at i) (later i)
+  are_append : (nodes : List (Name × Body)) (names more : List Name) → AreNamesOf nodes names → AreNamesOf nodes more → AreNamesOf nodes (names ++ more)
+  are_append nodes [] more are also = also
+  are_append nodes (name ∷ names) more are also = (are.0, are_append nodes names more are.1 also)
+
+  one_more : (before : List (Name × Body)) (node : Name × Body) → AreNamesOf before (names_of before) → AreNamesOf (before ++ node ∷ []) (names_of (before ++ node ∷ []))
+  one_more before node are =
+      subst (AreNamesOf (before ++ node ∷ [])) (sym (map-append (λ (e : Name × Body). e.0) before (node ∷ [])))
+      (are_append (before ++ node ∷ []) (names_of before) (node.0 ∷ []) (still before node (names_of before) are) (last_is_there before node, tt))
+
+  nodes_from : (before after : List (Name × Body)) (place : ℕ) → map_of.entries g.nodes ≡ before ++ after → AreNamesOf before (names_of before) →
+      place ≡ length before + 1 → nodes_reading before place (map node_entry after) ≡ Ok (before ++ after)
+  nodes_from before [] place whole are at = ap (λ (es : List (Name × Body)). Ok es) (sym (append-nil before))
+  nodes_from before (node ∷ after) place whole are at =
+      ap (λ read. then_read place node.0 read (λ body. nodes_reading (before ++ (node.0, body) ∷ []) (place + 1) (map node_entry after))) (is_read before node after whole (names_of before) are place at)
+      ∙ nodes_from (before ++ node ∷ []) after (place + 1) (whole ∙ sym (append_assoc before (node ∷ []) after)) (one_more before node are) (omega (arith, at, length-append before (node ∷ [])))
+      ∙ ap (λ (es : List (Name × Body)). Ok es) (append_assoc before (node ∷ []) after)
 
   pub nodes_back : nodes_reading [] 1 (map node_entry (map_of.entries g.nodes)) ≡ Ok (map_of.entries g.nodes)
-  nodes_back = nodes_from [] (map_of.entries g.nodes) [] 1 refl tt refl
+  nodes_back = nodes_from [] (map_of.entries g.nodes) 1 refl tt refl

@@ -3,18 +3,17 @@ use Rattle.std.proofs.Common.{◌≡◌, ◌⊎◌, inl, inr, ℕ, zero, suc, �
 use Rattle.std.specs.List.{AllByRecursion}
 use Rattle.std.specs.FinMap as map
 use Rattle.std.proofs.lemmas.Fmt.{decimal_injective}
-use Rattle.std.proofs.lemmas.List.{append_cancel_left, length-replicate}
+use Rattle.std.proofs.lemmas.List.{append_cancel_left}
 use Rattle.port_types.specs.declared.side.Side.{Side}
 use Rattle.port_types.specs.declared.side.Side.TheVariants.{Ins, Outs}
 use Rattle.port_types.specs.PortText.{side_word, port_name}
 use Rattle.dot_text.specs.declared.doc.Doc.{Doc}
 use Rattle.dot_text.specs.declared.doc.DocNode.{DocNode}
 use Rattle.dot_text.specs.declared.doc.DocEdge.{DocEdge}
-use Rattle.graph_core.specs.declared.kind.Kind.{Kind}
 use Rattle.port_types.specs.declared.side.Side.TheVariants.{Ins, Outs}
 use Rattle.graphiti.proofs.PortCounts.{few_ports}
 use Rattle.graph_core.specs.Name.{Name, Port, name_cmp, port_cmp, port_get, IsName}
-use Rattle.graph_core.specs.Kind.{ins, outs, KindOk}
+use Rattle.graph_core.specs.Kind.{ins, outs}
 use Rattle.graph_core.specs.Node.{Body}
 use Rattle.graph_core.specs.NamedGraph.{NamedGraph, no_graph, with_node, with_wire, IsWire, CanWire, IsTyped, IsNamed}
 use Rattle.graphiti.specs.Plain.{last_value, ReadsNode, ReadsEdge, ReadsNodes, ReadsEdges, IsPlainOf}

@@ -12,15 +12,15 @@ use Rattle.port_types.specs.declared.side.Side.TheVariants.{Ins, Outs}
 use Rattle.graph_core.specs.Name.{Name, Port, name_cmp, port_get}
 use Rattle.graph_core.specs.Kind.{Shape, ports}
 use Rattle.graph_core.specs.Node.{Body}
-use Rattle.graph_core.specs.NamedGraph.{NamedGraph, IsTyped}
-use Rattle.graph_read.specs.GraphReading.{feeds, is_wired, first_free, open_port, open_refusal, first_open}
+use Rattle.graph_core.specs.NamedGraph.{NamedGraph, IsTyped, is_wired}
+use Rattle.graph_read.specs.GraphReading.{first_free, open_port, open_refusal, first_open}
 use Rattle.graphiti.proofs.EntryLists as lists
 use Rattle.graphiti.proofs.Lookups.{name_total, port_total, port_same}
 use Rattle.graphiti.proofs.MapEntries.{found_passes}
 
 module _ (g : NamedGraph) (typed : IsTyped g) where
   -- the output feeds the wire that is there
-  feeding : (p target : Port) → map_of.get g.feeders target ≡ Some p → feeds g p ≡ true
+  feeding : (p target : Port) → map_of.get g.feeders target ≡ Some p → is_wired g Outs p ≡ true
   feeding p target is =
       found_passes port_total port_same (λ wire. bytes_eq wire.1.node p.node && (wire.1.port == p.port)) target p
       (λ q. and_from (bytes_eq p.node p.node) (p.port == p.port) ((bytes_eq-Decides p.node p.node).1 refl) (eq-eqb p.port p.port refl)) (map_of.entries g.feeders)

@@ -1,5 +1,5 @@
 -- What a graph that is read has at each node.
-use Rattle.std.proofs.Common.{◌≡◌, ℕ, ◌+◌, ◌<◌, ◌^◌, Bool, true, false, cond, not, ◌&&◌, List, [], ◌∷◌, length, map, Option, Some, None, Result, Ok, Err, codes, refl, sym, ap, subst, ◌∙◌, arith}
+use Rattle.std.proofs.Common.{◌≡◌, ℕ, ◌+◌, ◌<◌, ◌^◌, Bool, true, false, cond, not, ◌&&◌, List, [], ◌∷◌, ◌++◌, length, map, Option, Some, None, Result, Ok, Err, codes, refl, sym, ap, subst, ◌∙◌, arith}
 use Rattle.std.specs.Prelude.{nat_lt, nat_le, bytes_eq}
 use Rattle.std.specs.List.{AllByRecursion, list_any, list_all}
 use Rattle.std.specs.Str.Parse.{digits_value}
@@ -35,7 +35,7 @@ use Rattle.graph_read.specs.declared.fault.GraphRefusal.{GraphRefusal}
 use Rattle.graph_read.specs.Attributes.{Pair, last_value, kept_of, in_word, digits_of, value_behind}
 use Rattle.graph_read.specs.Rows.{Reading, component_of}
 use Rattle.graph_read.specs.NodeReading.{NodeReading, is_memory, is_name, shapes_in, text_reading, side_reading, ports_reading, component_reading, named_reading, word_reading, kind_reading, with_kept, body_reading, within_limit, node_reading}
-use Rattle.graph_read.specs.GraphReading.{refusal, graph_reading, NamedWire, NodesReading, GraphReading, then_nodes, nodes_reading, edge_reading, then_edges, edges_reading, first_open, graph_of_nodes, unless, closed, wired}
+use Rattle.graph_read.specs.GraphReading.{refusal, graph_reading, NamedWire, NodesReading, GraphReading, then_read, names_of, nodes_reading, edge_reading, edges_reading, first_open, graph_of_nodes, unless, closed, wired}
 use Rattle.graph_read.specs.Laws.{AreRead, RowsAreMet, Says}
 use Rattle.graphiti.specs.CanonicalReading.{ValueFits, ReadFits}
 use Rattle.graphiti.specs.CanonicalTexts.{KeptTexts, ReadTexts}
@@ -122,7 +122,7 @@ at_most false found body e = refused TooMany body e
 -- ---- edges keep the nodes
 
 wires_keep : (place : ℕ) (name : Name) (read : Result NamedWire GraphFaultKind) (more : NamedWire → GraphReading) (h g : NamedGraph) →
-    ((wire : NamedWire) → more wire ≡ Ok g → g.nodes ≡ h.nodes) → then_edges place name read more ≡ Ok g → g.nodes ≡ h.nodes
+    ((wire : NamedWire) → more wire ≡ Ok g → g.nodes ≡ h.nodes) → then_read place name read more ≡ Ok g → g.nodes ≡ h.nodes
 wires_keep place name (Err fault) more h g p e = refused (refusal fault place name) g e
 wires_keep place name (Ok wire) more h g p e = p wire e
 
@@ -208,18 +208,22 @@ module _ (says_ports : ReadsPorts) (rows : RowsAreMet) where
     abbrev NodesFit : List (Name × Body) → Type 0
     NodesFit nodes = AllByRecursion (λ node. BodyFits node.1) nodes
 
-    more_fit : (place : ℕ) (name : Name) (read : NodeReading) (more : NodesReading) (nodes : List (Name × Body)) → ((body : Body) → read ≡ Ok body → BodyFits body) →
-        ((others : List (Name × Body)) → more ≡ Ok others → NodesFit others) → then_nodes place name read more ≡ Ok nodes → NodesFit nodes
+    more_fit : (place : ℕ) (name : Name) (read : NodeReading) (more : Body → NodesReading) (nodes : List (Name × Body)) → ((body : Body) → read ≡ Ok body → BodyFits body) →
+        ((body : Body) → BodyFits body → more body ≡ Ok nodes → NodesFit nodes) → then_read place name read more ≡ Ok nodes → NodesFit nodes
     more_fit place name (Err fault) more nodes p q e = refused (refusal fault place name) nodes e
-    more_fit place name (Ok body) (Err fault) nodes p q e = refused fault nodes e
-    more_fit place name (Ok body) (Ok others) nodes p q e = subst NodesFit (same_answer ((name, body) ∷ others) nodes e) (p body refl, q others refl)
+    more_fit place name (Ok body) more nodes p q e = q body (p body refl) e
 
-    nodes_fit : (names : List Name) (place : ℕ) (statements : List DocNode) → EachOf (λ node. Known node.pairs) statements → (nodes : List (Name × Body)) →
-        nodes_reading names place statements ≡ Ok nodes → NodesFit nodes
-    nodes_fit names place [] known nodes e = subst NodesFit (same_answer [] nodes e) tt
-    nodes_fit names place (node ∷ statements) known nodes e =
-        more_fit place node.name (node_reading names place node) (nodes_reading (node.name ∷ names) (place + 1) statements) nodes (node_fits names place node known.0)
-        (nodes_fit (node.name ∷ names) (place + 1) statements known.1) e
+    one_more_fits : (nodes : List (Name × Body)) (node : Name × Body) → NodesFit nodes → BodyFits node.1 → NodesFit (nodes ++ node ∷ [])
+    one_more_fits [] node fit also = (also, tt)
+    one_more_fits (first ∷ nodes) node fit also = (fit.0, one_more_fits nodes node fit.1 also)
+
+    nodes_fit : (before : List (Name × Body)) (place : ℕ) (statements : List DocNode) → EachOf (λ node. Known node.pairs) statements → NodesFit before → (nodes : List (Name × Body)) →
+        nodes_reading before place statements ≡ Ok nodes → NodesFit nodes
+    nodes_fit before place [] known fit nodes e = subst NodesFit (same_answer before nodes e) fit
+    nodes_fit before place (node ∷ statements) known fit nodes e =
+        more_fit place node.name (node_reading (names_of before) place node) (λ body. nodes_reading (before ++ (node.name, body) ∷ []) (place + 1) statements) nodes
+        (node_fits (names_of before) place node known.0)
+        (λ body also. nodes_fit (before ++ (node.name, body) ∷ []) (place + 1) statements known.1 (one_more_fits before (node.name, body) fit also) nodes) e
 
     -- ---- the whole
 
@@ -245,7 +249,7 @@ module _ (says_ports : ReadsPorts) (rows : RowsAreMet) where
     graph_fits : (doc : Doc) (g : NamedGraph) → EachOf (λ node. Known node.pairs) doc.nodes → graph_reading doc ≡ Ok g →
         (name : Name) (body : Body) → map_of.get g.nodes name ≡ Some body → BodyFits body
     unfolding GraphFits
-    graph_fits doc g known e = wired_fits doc.edges (nodes_reading [] 1 doc.nodes) g (nodes_fit [] 1 doc.nodes known) e
+    graph_fits doc g known e = wired_fits doc.edges (nodes_reading [] 1 doc.nodes) g (nodes_fit [] 1 doc.nodes known tt) e
 
   -- ---- values and keys
 

@@ -1,4 +1,4 @@
-use Rattle.std.proofs.Common.{◌≡◌, ◌∙◌, Some, rules, arith, sym, ap}
+use Rattle.std.proofs.Common.{◌∙◌, Some, arith, sym, ap}
 use Rattle.graph_core.specs.Fields.{field_of}
 use Rattle.graph_core.proofs.Opening.{within}
 use Rattle.graph_core.proofs.PortLists.{port_get-get_or}

@@ -1,4 +1,4 @@
-use Rattle.std.proofs.Common.{◌≡◌, ◌∙◌, ◌+◌, ◌-◌, ◌<◌, ◌≤◌, length, drop, slice_get, sym, ap, subst}
+use Rattle.std.proofs.Common.{◌∙◌, ◌+◌, ◌-◌, ◌<◌, ◌≤◌, length, drop, slice_get, sym, ap, subst}
 use Rattle.std.specs.List.{concat}
 use Rattle.graph_core.proofs.PortFields.{field_here, field_later}
 use Rattle.graph_core.proofs.fields.joined_field.Goals as goal

@@ -1,4 +1,4 @@
-use Rattle.std.proofs.Common.{◌≡◌, ◌∙◌, ◌-◌, ◌<◌, length, map, Some, rules, arith, sym, ap, subst}
+use Rattle.std.proofs.Common.{◌∙◌, map, arith, sym, ap}
 use Rattle.std.specs.Option.{option_map}
 use Rattle.std.proofs.lemmas.List.{length-map}
 use Rattle.graph_core.specs.Kind.{field}

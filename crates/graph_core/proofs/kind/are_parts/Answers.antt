@@ -1,4 +1,4 @@
-use Rattle.std.proofs.Common.{◌≡◌, ◌≤◌, length, rules, arith}
+use Rattle.std.proofs.Common.{◌≤◌, length, rules}
 use Rattle.std.specs.Prelude.{All}
 use Rattle.port_types.specs.Shape.{IsShape}
 use Rattle.graph_core.proofs.PortShapes.{joined_shape}

@@ -1,8 +1,6 @@
-use Rattle.std.proofs.Common.{◌≡◌, ◌≤◌, length, subst, arith, sym, rules}
-use Rattle.std.specs.Prelude.{◌↔◌, IsTrue, IsSome, nat_le}
+use Rattle.std.proofs.Common.{◌≡◌, length, arith, rules}
 use Rattle.std.proofs.lemmas.Bool.{leb-true}
 use Rattle.graph_core.specs.Kind.{ports}
-use Rattle.graph_core.specs.Name.{port_get}
 use Rattle.graph_core.proofs.Opening.{there_where_counted, none_at_zero}
 use Rattle.graph_core.proofs.port_shapes.has_port.Goals as goal
 use Rattle.graph_core.proofs.port_shapes.has_port.Goals.{in-Ins, in-Outs}

@@ -1,4 +1,4 @@
-use Rattle.std.proofs.Common.{◌≡◌, ◌∙◌, ◌≤◌, Some, List, ℕ, length, sym, ap, arith, rules, refl}
+use Rattle.std.proofs.Common.{◌≡◌, ◌≤◌, Some, List, ℕ, length, arith, refl}
 use Rattle.port_types.specs.declared.side.Side.TheVariants.{Ins, Outs}
 use Rattle.graph_core.specs.Kind.{ins, outs}
 use Rattle.graph_core.specs.Name.{port_get}

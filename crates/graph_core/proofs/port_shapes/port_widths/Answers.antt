@@ -1,7 +1,6 @@
-use Rattle.std.proofs.Common.{◌≡◌, ◌∙◌, ◌≤◌, Some, None, List, ℕ, length, sym, ap, arith, rules, subst}
+use Rattle.std.proofs.Common.{◌≡◌, ◌∙◌, ◌≤◌, Some, List, ℕ, length, sym, arith}
 use Rattle.graph_core.specs.Kind.{ports}
 use Rattle.graph_core.specs.Name.{port_get}
-use Rattle.graph_core.specs.Fields.{field_of}
 use Rattle.graph_core.proofs.PortFields.{read_all, few_fields, one_more}
 use Rattle.graph_core.proofs.PortShapes.{port_is_shape}
 use Rattle.graph_core.proofs.port_shapes.port_widths.Goals as goal

@@ -1,4 +1,4 @@
-use Rattle.std.proofs.Common.{◌≡◌, refl, rules, arith, [], length, ◌<◌, ℕ}
+use Rattle.std.proofs.Common.{refl, arith, []}
 use Rattle.std.proofs.lemmas.List.{ext_get_or}
 use Rattle.graph_core.proofs.same.same_shapes.Goals as goal
 

@@ -1,4 +1,4 @@
-use Rattle.std.proofs.Common.{◌≡◌, ℕ, List, [], ◌<◌, get_or}
+use Rattle.std.proofs.Common.{◌≡◌, ℕ, [], ◌<◌, get_or}
 use Rattle.graph_core.proofs.same.same_shapes.Given as goal
 
 abbrev pub invariant-loop-index : goal.invariant-loop-index

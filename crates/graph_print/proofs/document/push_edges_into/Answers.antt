@@ -1,4 +1,4 @@
-use Rattle.std.proofs.Common.{◌≡◌, ◌∙◌, ◌-◌, ◌+◌, ◌++◌, take, map, sym, ap, subst, rules, arith}
+use Rattle.std.proofs.Common.{◌-◌, take, map, ap, arith}
 use Rattle.std.proofs.lemmas.Grind.{common_steps}
 use Rattle.std.proofs.lemmas.List.{take_all, map-append}
 use Rattle.graph_core.specs.Kind.{ins}

@@ -1,4 +1,4 @@
-use Rattle.std.proofs.Common.{◌≡◌, ◌∙◌, rules, sym, ap, is_some, true≢false}
+use Rattle.std.proofs.Common.{◌∙◌, rules, sym, ap, is_some, true≢false}
 use Rattle.graph_core.specs.Kind.{KindOk}
 use Rattle.port_types.specs.declared.side.Side.TheVariants.{Ins, Outs}
 use Rattle.graph_core.proofs.Known.{at_some, at_none, none_by}
