@@ -19,7 +19,6 @@ mod node;
 mod owned;
 mod place;
 mod port_shapes;
-mod same;
 mod slots;
 #[cfg(test)]
 mod tests;
