@@ -1,6 +1,8 @@
 pub mod Attributes
 pub mod LastPairs
 pub mod Rows
+pub mod Pure
+pub mod GraphLaws
 pub mod NodeReading
 pub mod Answers
 pub mod GraphReading

@@ -1,4 +1,5 @@
 ghost use Rattle.graph_read.specs.Laws.{RowsAreMet, RowsReadBack, DecimalValues, HexadecimalValues, DecimalTags};
+ghost use Rattle.graph_read.specs.GraphLaws.{ReadIsTyped, ReadHasNoPure};
 
 use op_table::tests_are_the_table;
 
@@ -22,3 +23,11 @@ pub fn numbers_read_back()
     ensures hexadecimal { HexadecimalValues }
     ensures tags { DecimalTags }
 {}
+
+/// A graph that is read is typed and within the limits, and no node of its document applies a function.
+pub fn read_graphs_are_typed()
+    ensures typed { ReadIsTyped }
+    ensures no_pure { ReadHasNoPure }
+{
+    rows_are_met();
+}

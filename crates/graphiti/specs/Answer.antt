@@ -1,18 +1,22 @@
 -- What an answer of the program says of the words, of what was read and of what was written.
-use Rattle.std.specs.Prelude.{◌≡◌, ℕ, ◌<◌, ◌≤◌, List, [], map, take, length, Option, Some, None, IfSome, String, string_bytes}
+use Rattle.std.specs.Prelude.{◌≡◌, ℕ, ◌<◌, ◌≤◌, false, Err, IsTrue, List, [], map, take, length, Option, Some, None, IfSome, String, string_bytes}
 use Rattle.std.specs.declared.alloc.Global.{Global}
+use Rattle.dot_text.specs.declared.doc.Doc.{Doc}
 use Rattle.gx_base.specs.Stream.{before, after}
 use Rattle.graph_core.specs.NamedGraph.{NamedGraph}
 use Rattle.module_sem.specs.Circuit.{circuit_of}
 use Rattle.module_sem.specs.Refines.{Refines}
 use Rattle.graphiti.specs.declared.status.Status.{Status}
-use Rattle.graphiti.specs.declared.status.Status.TheVariants.{Syntax, TooLong, NotYet}
+use Rattle.graphiti.specs.declared.status.Status.TheVariants.{Syntax, TooLong, Graph, NoMemory, NotYet}
 use Rattle.graphiti.specs.declared.words.Command.{Command}
 use Rattle.graphiti.specs.declared.words.Command.TheVariants.{Print, Strip, Later}
 use Rattle.graphiti.specs.Words.{command_of}
 use Rattle.graph_print.specs.CanonicalText.{text_of}
 use Rattle.graphiti.specs.Stripped.{IsStripped}
-use Rattle.graphiti.specs.Input.{FaultAt, IsInputOf, IsOther}
+use Rattle.graph_read.specs.declared.fault.GraphRefusal.{GraphRefusal}
+use Rattle.graph_read.specs.GraphReading.{graph_reading}
+use Rattle.graph_read.specs.Pure.{has_pure}
+use Rattle.graphiti.specs.Input.{FaultAt, IsInputOf, IsGraphFault, IsNotYet}
 use Rattle.graphiti.specs.Behaviour.{KeepsDrains}
 
 -- the most bytes of an input
@@ -40,29 +44,32 @@ pub record ReadsInput (input : List ℕ) (old new : Option (List ℕ)) : Type 0 
   pub read : ReadWhole input old new
   pub within : length input ≤ max_input
 
--- the input was a plain document, which is this graph
+-- the input was a document, which is this graph
 pub record ReadsGraph (g : NamedGraph) (old new : Option (List ℕ)) : Type 0 where
   pub input : List ℕ
   pub reads : ReadsInput input old new
   pub is : IsInputOf g input
 
--- it was a document, and not plain
-pub record ReadsOther (old new : Option (List ℕ)) : Type 0 where
-  pub input : List ℕ
-  pub reads : ReadsInput input old new
-  pub is : IsOther input
-
--- it was no document, which shows at the place
-pub record ReadsFault (place : ℕ) (old new : Option (List ℕ)) : Type 0 where
-  pub input : List ℕ
-  pub reads : ReadsInput input old new
-  pub fault : FaultAt input place
-
--- an input that is refused, with its status: it is too long, or at fault, which shows at a byte, or a document that is not plain
+-- an input that is refused, with its status: it is too long, or at fault, which shows at a byte, or a document that is not read yet, or one
+-- that is no graph, with its first refusal
 pub data IsRefused (input : List ℕ) : Status → Type 0 where
   too_long : max_input < length input → IsRefused input TooLong
   at_fault : (at : ℕ) → length input ≤ max_input → FaultAt input at → IsRefused input (Syntax at)
-  not_plain : length input ≤ max_input → IsOther input → IsRefused input NotYet
+  no_graph : (refusal : GraphRefusal) → length input ≤ max_input → IsGraphFault input refusal → IsRefused input (Graph refusal)
+  not_yet : length input ≤ max_input → IsNotYet input → IsRefused input NotYet
+
+-- why a document alone gives no graph
+abbrev pub IsDocumentRefused : Doc → Status → Type 0
+IsDocumentRefused document NotYet = IsTrue (has_pure document)
+IsDocumentRefused document (Graph refusal) = (has_pure document ≡ false) × (graph_reading document ≡ Err refusal)
+IsDocumentRefused document NoMemory = Unit {0}
+IsDocumentRefused document _ = ⊥
+
+-- the input was read to its end, and is refused with this status
+pub record ReadsRefused (status : Status) (old new : Option (List ℕ)) : Type 0 where
+  pub input : List ℕ
+  pub reads : ReadsInput input old new
+  pub refused : IsRefused input status
 
 -- the answer is the text of the stripped graph, which refines the graph and drains what it drains
 pub record IsTextOfStripped (g : NamedGraph) (answer : List ℕ) : Type 0 where

@@ -1,10 +1,12 @@
 -- What stands in a whole input.
-use Rattle.std.specs.Prelude.{ℕ, ◌<◌, List, length}
+use Rattle.std.specs.Prelude.{◌≡◌, ℕ, ◌<◌, false, List, length, Ok, Err, IsTrue}
 use Rattle.dot_text.specs.declared.doc.Doc.{Doc}
 use Rattle.dot_text.specs.Documents.{Stands, Place}
 use Rattle.dot_text.specs.Blanks.{SkipsTo, SkipFails}
 use Rattle.graph_core.specs.NamedGraph.{NamedGraph}
-use Rattle.graphiti.specs.Plain.{IsPlain, IsPlainOf}
+use Rattle.graph_read.specs.declared.fault.GraphRefusal.{GraphRefusal}
+use Rattle.graph_read.specs.GraphReading.{graph_reading}
+use Rattle.graph_read.specs.Pure.{has_pure}
 
 -- one document, with nothing behind it but blanks and comments
 pub record HoldsDocument (bytes : List ℕ) (document : Doc) : Type 0 where
@@ -12,23 +14,34 @@ pub record HoldsDocument (bytes : List ℕ) (document : Doc) : Type 0 where
   pub stands : Stands bytes 0 document end
   pub behind : SkipsTo bytes end (length bytes)
 
--- no document stands in the bytes, or something else follows it, and this shows at the place
-pub data FaultAt (bytes : List ℕ) (place : ℕ) : Type 0 where
-  none : Place bytes 0 place → FaultAt bytes place
-  unclosed : (document : Doc) (end : ℕ) → Stands bytes 0 document end → SkipFails bytes end place → FaultAt bytes place
-  more : (document : Doc) (end : ℕ) → Stands bytes 0 document end → SkipsTo bytes end place → place < length bytes → FaultAt bytes place
-
--- a plain document, which is this graph
+-- a document, which is this graph
 pub record IsInputOf (g : NamedGraph) (bytes : List ℕ) : Type 0 where
   pub document : Doc
   pub holds : HoldsDocument bytes document
-  pub plain : IsPlainOf g document
+  pub reads : graph_reading document ≡ Ok g
 
-abbrev pub IsPlainInput : List ℕ → Type 0
-IsPlainInput bytes = (g : NamedGraph) × IsInputOf g bytes
+abbrev pub IsGraphInput : List ℕ → Type 0
+IsGraphInput bytes = (g : NamedGraph) × IsInputOf g bytes
 
--- a document that is not plain
-pub record IsOther (bytes : List ℕ) : Type 0 where
+-- no document stands in the bytes, or something else follows one that is a graph, and this shows at the place
+pub data FaultAt (bytes : List ℕ) (place : ℕ) : Type 0 where
+  none : Place bytes 0 place → FaultAt bytes place
+  unclosed : (document : Doc) (g : NamedGraph) (end : ℕ) → Stands bytes 0 document end → graph_reading document ≡ Ok g →
+      SkipFails bytes end place → FaultAt bytes place
+  more : (document : Doc) (g : NamedGraph) (end : ℕ) → Stands bytes 0 document end → graph_reading document ≡ Ok g →
+      SkipsTo bytes end place → place < length bytes → FaultAt bytes place
+
+-- a document with a node that applies a function, which is not read yet, whatever follows it
+pub record IsNotYet (bytes : List ℕ) : Type 0 where
   pub document : Doc
-  pub holds : HoldsDocument bytes document
-  pub other : ¬ (IsPlain document)
+  pub end : ℕ
+  pub stands : Stands bytes 0 document end
+  pub pure : IsTrue (has_pure document)
+
+-- a document without such a node, which is no graph, and this is its first refusal, whatever follows it
+pub record IsGraphFault (bytes : List ℕ) (refusal : GraphRefusal) : Type 0 where
+  pub document : Doc
+  pub end : ℕ
+  pub stands : Stands bytes 0 document end
+  pub no_pure : has_pure document ≡ false
+  pub refused : graph_reading document ≡ Err refusal

@@ -4,8 +4,6 @@ pub mod Behaviour
 pub mod Bypass
 pub mod Status
 pub mod Words
-pub mod Plain
-pub mod PlainParts
 pub mod Input
 pub mod ReadBack
 pub mod Answer

@@ -1,45 +1,19 @@
 -- Canonical texts as inputs.
-use Rattle.std.specs.Prelude.{◌≡◌, ℕ, ◌≤◌, List, Some}
+use Rattle.std.specs.Prelude.{◌≡◌, ℕ, List}
 use Rattle.std.specs.Str.{IsUtf8}
-use Rattle.std.specs.FinMap as map
 use Rattle.dot_text.specs.Printing.{CanBeQuoted}
-use Rattle.graph_core.specs.declared.kind.Kind.{Kind}
-use Rattle.graph_core.specs.Name.{Name}
-use Rattle.graph_core.specs.Node.{Body, IsOwned}
-use Rattle.graph_core.specs.NamedGraph.{NamedGraph, IsTyped, IsNamed}
+use Rattle.graph_core.specs.NamedGraph.{NamedGraph}
 use Rattle.graph_print.specs.CanonicalText.{text_of}
-use Rattle.graphiti.specs.Plain.{HasOneField}
+use Rattle.graphiti.specs.CanonicalReading.{CanBeReadBack}
+use Rattle.graphiti.specs.CanonicalTexts.{KeptTexts}
 use Rattle.graphiti.specs.Stripped.{IsStripped}
 use Rattle.graphiti.specs.Input.{IsInputOf}
 
--- some quoted text stands for it, and it is UTF-8 as a document is
-pub record CanBeWritten (text : List ℕ) : Type 0 where
-  pub quoted : CanBeQuoted text
-  pub utf8 : IsUtf8 text
-
--- the attribute can be read as a kept one: its texts can be written, and its key says nothing else of a node of this kind
-pub record CanBeKept (kind : Kind) (key value : List ℕ) : Type 0 where
-  pub unowned : ¬ (IsOwned kind key)
-  pub written_key : CanBeWritten key
-  pub written_value : CanBeWritten value
-
-abbrev pub KeptCanBeRead : NamedGraph → Type 0
-KeptCanBeRead g =
-    (name : Name) (body : Body) (key value : List ℕ) → map.get g.nodes name ≡ Some body → map.get body.kept key ≡ Some value → CanBeKept body.kind key value
-
-abbrev pub PortsHaveOneField : NamedGraph → Type 0
-PortsHaveOneField g = (name : Name) (body : Body) → map.get g.nodes name ≡ Some body → HasOneField body.kind
-
--- within the limits of reading
+-- within the limits of reading, and what it keeps can be quoted and is UTF-8
 pub record CanBeRead (g : NamedGraph) : Type 0 where
-  -- each plain document's graph is so
-  pub typed : IsTyped g
-  pub few : map.len g.nodes ≤ 65536
-  pub one_field : PortsHaveOneField g
-  -- and has such names; they hold neither a double quote nor a backslash, so they stand in quotes as they are
-  pub names : IsNamed g
-  -- the printed pair of a kept attribute says this attribute, and no pair of the kind
-  pub kept : KeptCanBeRead g
+  pub within : CanBeReadBack g
+  pub quoted : KeptTexts CanBeQuoted g
+  pub utf8 : KeptTexts IsUtf8 g
 
 -- the canonical text of a graph is an input of the graph, however long it is
 abbrev pub TextReadsBack : Type 0

@@ -1,5 +1,4 @@
 //! Laws of the definitions that the contract of `run` speaks of.
-ghost use Rattle.graphiti.specs.Plain.{PlainIsOneGraph};
 ghost use Rattle.graphiti.specs.CanonicalReading.{CanonicalReadsBack, ReadFits};
 ghost use Rattle.graphiti.specs.CanonicalTexts.{CanonicalPrints, CanonicalTextReadsBack, ReadTexts};
 ghost use Rattle.graphiti.specs.ReadBack.{TextReadsBack, ReadCanBeRead, StrippedCanBeRead, PrintReadsBack, InputIsOneGraph, PrintOfPrint};
@@ -17,11 +16,6 @@ use module_sem::{
     refines_itself,
 };
 use port_types::{reads_back, reads_ports};
-
-/// A plain document is one graph alone.
-pub fn plain_is_one_graph()
-    ensures { PlainIsOneGraph }
-{}
 
 /// The canonical text of a graph within the limits of reading is an input of that graph.
 pub fn text_reads_back()
@@ -52,7 +46,6 @@ pub fn print_of_print()
     ensures same { PrintOfPrint }
 {
     one_document();
-    plain_is_one_graph();
     text_reads_back();
     read_texts_can_be_quoted();
 }

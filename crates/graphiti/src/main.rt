@@ -5,7 +5,6 @@
 mod input;
 mod laws;
 mod line;
-mod plain;
 mod run;
 mod status;
 mod strip;

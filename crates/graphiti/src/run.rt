@@ -5,8 +5,9 @@ ghost use Rattle.graph_core.specs.NamedGraph.{IsTyped};
 ghost use Rattle.graph_core.specs.GraphValue.{by_names};
 ghost use Rattle.graphiti.specs.declared.words.Command.TheVariants.{Later};
 ghost use Rattle.graphiti.specs.Status.{line_of};
-ghost use Rattle.graphiti.specs.Input.{IsPlainInput};
-ghost use Rattle.graphiti.specs.Answer.{max_input, command_in, Reads, ReadsOther, ReadsFault, IsRefused, IsAnswer, IsTextOfStripped, WritesAll, WritesFront, AnswersInput, AnswersFront, Answers, AnswersInPart, WritesFrontOf};
+ghost use Rattle.graph_read.specs.declared.fault.GraphRefusal.{GraphRefusal};
+ghost use Rattle.graphiti.specs.Input.{IsGraphInput};
+ghost use Rattle.graphiti.specs.Answer.{max_input, command_in, Reads, ReadsRefused, IsRefused, IsAnswer, IsTextOfStripped, WritesAll, WritesFront, AnswersInput, AnswersFront, Answers, AnswersInPart, WritesFrontOf};
 
 use crate::input::read_graph;
 use crate::line::write_line;
@@ -16,6 +17,7 @@ use crate::words::{Command, command_of};
 use dot_text::{one_document, one_place, skipping_decides};
 use graph_core::Graph;
 use graph_print::text_of;
+use graph_read::read_graphs_are_typed;
 use gx_base::{Sink, Source, write_all};
 use port_types::NoMemory;
 use std::alloc::Global;
@@ -30,7 +32,7 @@ pub fn run<S: Source, O: Sink, E: Sink>(
     out: &mut O,
     err: &mut E,
 ) -> Status
-    // The input was a plain document, and `out` took the command's answer, all of it and nothing else; a stripped graph refines the one read.
+    // The input was a document that is a graph, and `out` took the command's answer, all of it and nothing else; a stripped graph refines the one read.
     ensures done { result ≡ Status.Done → Answers (command_in words.now) (S.left src.old) (S.left src.new) (O.taken out.old) (O.taken out.new) }
 
     // Wrong words are told before anything is read, and so are commands that do not run yet.
@@ -38,9 +40,11 @@ pub fn run<S: Source, O: Sink, E: Sink>(
     ensures later { command_in words.now ≡ Some Later → result ≡ Status.NotYet }
     ensures unread { ¬ (Reads (command_in words.now)) → src.new ≡ src.old }
 
-    // Refused besides are inputs that were read whole: documents that are not plain, and what is no document, with the byte where this shows.
-    ensures other { result ≡ Status.NotYet → Reads (command_in words.now) → ReadsOther (S.left src.old) (S.left src.new) }
-    ensures syntax { (at : ℕ) → result ≡ Status.Syntax at → ReadsFault at (S.left src.old) (S.left src.new) }
+    // Refused besides are inputs that were read whole: what is no document, with the byte where this shows; a document that is not read yet;
+    // one that is no graph, with its first refusal; and a graph's document with something else behind it, with its byte.
+    ensures other { result ≡ Status.NotYet → Reads (command_in words.now) → ReadsRefused Status.NotYet (S.left src.old) (S.left src.new) }
+    ensures graph { (refusal : GraphRefusal) → result ≡ Status.Graph refusal → ReadsRefused (Status.Graph refusal) (S.left src.old) (S.left src.new) }
+    ensures syntax { (at : ℕ) → result ≡ Status.Syntax at → ReadsRefused (Status.Syntax at) (S.left src.old) (S.left src.new) }
 
     // A read fails only where the source counts it, and one byte past the limit is taken only for this answer.
     ensures read_fault { result ≡ Status.ReadFault → Rose (S.faults src.old) (S.faults src.new) }
@@ -56,8 +60,8 @@ pub fn run<S: Source, O: Sink, E: Sink>(
     ensures line { WritesFrontOf (line_of result) (E.taken err.old) (E.taken err.new) }
     ensures whole_line { ¬ (Rose (E.faults err.old) (E.faults err.new)) → E.taken err.new ≡ after (E.taken err.old) (line_of result) }
 
-    // Where nothing fails a plain document is answered, unless memory runs out.
-    ensures complete { Reads (command_in words.now) → IfSome (S.left src.old) (λ input. IsPlainInput input → length input ≤ max_input
+    // Where nothing fails a document that is a graph is answered, unless memory runs out.
+    ensures complete { Reads (command_in words.now) → IfSome (S.left src.old) (λ input. IsGraphInput input → length input ≤ max_input
         → ¬ (Rose (S.faults src.old) (S.faults src.new)) → ¬ (Rose (O.faults out.old) (O.faults out.new))
         → (result ≡ Status.Done) ⊎ (result ≡ Status.NoMemory)) }
 
@@ -71,8 +75,9 @@ pub fn run<S: Source, O: Sink, E: Sink>(
     one_document();
     one_place();
     skipping_decides();
+    read_graphs_are_typed();
     let status = answer(alloc, words, src, out);
-    write_line(err, status);
+    write_line(err, &status);
     status
 }
 
@@ -82,8 +87,9 @@ fn answer<S: Source, O: Sink>(alloc: Global, words: &[String], src: &mut S, out:
     ensures usage { (result ≡ Status.Usage) ↔ (command_in words.now ≡ None) }
     ensures later { command_in words.now ≡ Some Later → result ≡ Status.NotYet }
     ensures unread { ¬ (Reads (command_in words.now)) → src.new ≡ src.old }
-    ensures other { result ≡ Status.NotYet → Reads (command_in words.now) → ReadsOther (S.left src.old) (S.left src.new) }
-    ensures syntax { (at : ℕ) → result ≡ Status.Syntax at → ReadsFault at (S.left src.old) (S.left src.new) }
+    ensures other { result ≡ Status.NotYet → Reads (command_in words.now) → ReadsRefused Status.NotYet (S.left src.old) (S.left src.new) }
+    ensures graph { (refusal : GraphRefusal) → result ≡ Status.Graph refusal → ReadsRefused (Status.Graph refusal) (S.left src.old) (S.left src.new) }
+    ensures syntax { (at : ℕ) → result ≡ Status.Syntax at → ReadsRefused (Status.Syntax at) (S.left src.old) (S.left src.new) }
     ensures read_fault { result ≡ Status.ReadFault → Rose (S.faults src.old) (S.faults src.new) }
     ensures too_long { result ≡ Status.TooLong → Gave (λ count. count ≡ max_input + 1) (S.left src.old) (S.left src.new) }
     ensures within { result ≢ Status.TooLong → Gave (λ count. count ≤ max_input) (S.left src.old) (S.left src.new) }
@@ -109,8 +115,9 @@ fn answer_input<S: Source, O: Sink>(
     requires { Reads (Some command) }
     ensures done { result ≡ Status.Done → AnswersInput command (S.left src.old) (S.left src.new) (O.taken out.old) (O.taken out.new) }
     ensures no_usage { result ≢ Status.Usage }
-    ensures other { result ≡ Status.NotYet → ReadsOther (S.left src.old) (S.left src.new) }
-    ensures syntax { (at : ℕ) → result ≡ Status.Syntax at → ReadsFault at (S.left src.old) (S.left src.new) }
+    ensures other { result ≡ Status.NotYet → ReadsRefused Status.NotYet (S.left src.old) (S.left src.new) }
+    ensures graph { (refusal : GraphRefusal) → result ≡ Status.Graph refusal → ReadsRefused (Status.Graph refusal) (S.left src.old) (S.left src.new) }
+    ensures syntax { (at : ℕ) → result ≡ Status.Syntax at → ReadsRefused (Status.Syntax at) (S.left src.old) (S.left src.new) }
     ensures read_fault { result ≡ Status.ReadFault → Rose (S.faults src.old) (S.faults src.new) }
     ensures too_long { result ≡ Status.TooLong → Gave (λ count. count ≡ max_input + 1) (S.left src.old) (S.left src.new) }
     ensures within { result ≢ Status.TooLong → Gave (λ count. count ≤ max_input) (S.left src.old) (S.left src.new) }

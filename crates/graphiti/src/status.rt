@@ -1,8 +1,10 @@
 ghost use Rattle.std.specs.Prelude.{◌≡◌};
 ghost use Rattle.graphiti.specs.Status.{number_of};
 
+use graph_read::GraphRefusal;
+
 /// How a run of the program ended.
-#[derive(Clone, Copy, Debug, PartialEq, Eq)]
+#[derive(Debug, Drop)]
 pub enum Status {
     /// The answer was written.
     Done,
@@ -12,6 +14,8 @@ pub enum Status {
     Syntax(usize),
     /// The input is longer than 16,777,216 bytes.
     TooLong,
+    /// The input is a document and no graph; this is the first thing that is wrong with it.
+    Graph(GraphRefusal),
     /// A read of the input failed.
     ReadFault,
     /// A write of the answer failed.
@@ -31,6 +35,7 @@ impl Status {
             Status::Done => 0,
             Status::Usage => 1,
             Status::Syntax(_) | Status::TooLong => 2,
+            Status::Graph(_) => 3,
             Status::ReadFault => 6,
             Status::WriteFault => 7,
             Status::NoMemory => 8,

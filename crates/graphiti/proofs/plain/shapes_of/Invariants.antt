@@ -1,6 +1,0 @@
-use Rattle.std.proofs.Common.{◌≡◌, ◌-◌, take}
-use Rattle.graph_core.specs.Kind.{ports}
-use Rattle.graphiti.proofs.plain.shapes_of.Given as goal
-
-abbrev pub invariant-loop-number : goal.invariant-loop-number
-invariant-loop-number l = l.shapes.items ≡ take (l.number - 1) (ports l.kind l.side)
