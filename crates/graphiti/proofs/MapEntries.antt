@@ -1,15 +1,16 @@
 -- The entries of a finite map.
-use Rattle.std.proofs.Common.{◌≡◌, ◌≢◌, Bool, true, false, cond, ◌||◌, T, List, [], ◌∷◌, Option, Some, None, Ordering, refl, sym, ap, subst, ◌∙◌}
+use Rattle.std.proofs.Common.{◌≡◌, ◌≢◌, ℕ, ◌+◌, ◌-◌, ◌≤◌, Bool, true, false, cond, ◌||◌, T, List, [], ◌∷◌, length, Option, Some, None, Ordering, is_some, refl, sym, ap, subst, ◌∙◌, arith}
 use Rattle.std.specs.List.{AllByRecursion, list_any}
 use Rattle.std.specs.Cmp.{IsTotalOrder, Equal-is}
 use Rattle.std.specs.Ordering.{eq_by_cmp}
 use Rattle.std.specs.FinMap as map
 use Rattle.std.specs.FinMap.{FinMap, IsAntisymmetric}
 use Rattle.std.specs.FinMap.Entries.{find, is_sorted}
+use Rattle.std.proofs.lemmas.Option.{none-some}
 use Rattle.std.proofs.lemmas.List.Elements.{All-from_recursion}
 use Rattle.std.proofs.lemmas.List.Folds.{list_any_none}
 use Rattle.graphiti.proofs.EntryLists as lists
-use Rattle.graphiti.proofs.Lookups.{other_test}
+use Rattle.graphiti.proofs.Lookups.{other_test, get_not_removed}
 
 pub none_is : {A : Type 0} (o : Option A) (x : A) → o ≡ None → o ≡ Some x → ⊥
 none_is None x none some = absurd (cc)
@@ -36,14 +37,20 @@ module _ {K X : Type 0} {R : K → K → Ordering} (o : IsTotalOrder R) (same : 
   pub from_entries-entries : (m : FinMap R X) → map.from_entries (map.entries m) ≡ m
   from_entries-entries m = map.same_map o same (map.from_entries (map.entries m)) m (λ q. map.get-from_entries o (map.entries m) q ∙ sym (map.get-entries m q))
 
+  module _ (e : K × X) (es : List (K × X)) (sorted : T (is_sorted R (e ∷ es))) (k : K) (x : X) (found : find R k es ≡ Some x) where
+    -- a key that is found behind an entry is another, and is found with the entry too
+    behind_other : k ≢ e.0
+    behind_other is = none-some x (sym (ap (λ (q : K). find R q es) is ∙ lists.find_below R e.0 es (lists.first _ _ sorted)) ∙ found)
+
+    found_behind : find R k (e ∷ es) ≡ Some x
+    found_behind = ap (λ t. cond t (Some e.1) (find R k es)) (other_test o same k e.0 behind_other) ∙ found
+
   -- what holds at each key that is found holds of each entry
   pub each_entry : (P : K × X → Type 0) (es : List (K × X)) → T (is_sorted R es) → ((k : K) (x : X) → find R k es ≡ Some x → P (k, x)) → AllByRecursion P es
   each_entry P [] sorted holds = tt
   each_entry P (e ∷ es) sorted holds = (
     holds e.0 e.1 (lists.find_first R o e es),
-    each_entry P es (lists.second _ _ sorted) (λ k x found.
-        let other : k ≢ e.0 = λ is. none_is (find R k es) x (ap (λ (q : K). find R q es) is ∙ lists.find_below R e.0 es (lists.first _ _ sorted)) found in
-        holds k x (ap (λ t. cond t (Some e.1) (find R k es)) (other_test o same k e.0 other) ∙ found)),
+    each_entry P es (lists.second _ _ sorted) (λ k x found. holds k x (found_behind e es sorted k x found)),
   )
 
   -- what is found is some entry's value
@@ -59,3 +66,26 @@ module _ {K X : Type 0} {R : K → K → Ordering} (o : IsTotalOrder R) (same : 
       at_first : (b : Bool) → eq_by_cmp R k e.0 ≡ b → (find R k es ≡ Some x → P (k, x)) → cond b (Some e.1) (find R k es) ≡ Some x → P (k, x)
       at_first true test later is = subst P (λ i. (sym (same k e.0 ((Equal-is (R k e.0)).0 test)) i, some_is e.1 x is i)) each.0
       at_first false test later is = later is
+
+  -- ---- maps within others
+
+  holds_one : (m : FinMap R X) (k : K) (x : X) → map.get m k ≡ Some x → map.len m ≡ map.len (map.remove m k) + 1
+  holds_one m k x is =
+      omega (arith, some_length (map.entries m) (sym (map.get-entries m k) ∙ is), map.len-entries m, map.len-remove o m k ∙ ap (λ t. cond t (map.len m - 1) (map.len m)) (ap is_some is))
+    where
+      some_length : (es : List (K × X)) → find R k es ≡ Some x → 1 ≤ length es
+      some_length [] found = absurd (none-some x found)
+      some_length (e ∷ es) found = omega arith
+
+  few_entries : (es : List (K × X)) → T (is_sorted R es) → (m : FinMap R X) → ((k : K) (x : X) → find R k es ≡ Some x → map.get m k ≡ Some x) → length es ≤ map.len m
+  few_entries [] sorted m within = omega arith
+  few_entries (e ∷ es) sorted m within =
+      let one = holds_one m e.0 e.1 (within e.0 e.1 (lists.find_first R o e es)) in
+      let others = few_entries es (lists.second _ _ sorted) (map.remove m e.0) (λ k x found.
+      get_not_removed o same m e.0 k (behind_other e es sorted k x found) ∙ within k x (found_behind e es sorted k x found)) in
+      omega (arith, one, others)
+
+  -- a map within another has no more entries
+  pub fewer_entries : (m n : FinMap R X) → ((k : K) (x : X) → map.get m k ≡ Some x → map.get n k ≡ Some x) → map.len m ≤ map.len n
+  fewer_entries m n within =
+      omega (arith, map.len-entries m, few_entries (map.entries m) (map.entries_sorted m) n (λ k x found. within k x (map.get-entries m k ∙ found)))

@@ -45,7 +45,7 @@ use Rattle.graphiti.proofs.PairsBack.{in_reverse}
 
 -- ---- answers
 
-same_answer : {A E : Type 0} (x y : A) → ◌≡◌ {A = Result A E} (Ok x) (Ok y) → x ≡ y
+pub same_answer : {A E : Type 0} (x y : A) → ◌≡◌ {A = Result A E} (Ok x) (Ok y) → x ≡ y
 same_answer x y e = cc
 
 refused : {A E P : Type 0} (fault : E) (x : A) → ◌≡◌ {A = Result A E} (Err fault) (Ok x) → P
