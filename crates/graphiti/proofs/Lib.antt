@@ -15,6 +15,7 @@ pub mod WordLists
 pub mod Numerals
 pub mod LinePieces
 pub mod Faults
+pub mod Each
 pub mod MapEntries
 pub mod EdgesBack
 pub mod PortsClosed

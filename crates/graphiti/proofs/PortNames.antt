@@ -1,9 +1,7 @@
 -- The name of a port is read as its number.
 use Rattle.std.proofs.Common.{◌≡◌, ◌≢◌, ℕ, zero, suc, ◌+◌, ◌≤◌, ◌<◌, ◌^◌, Bool, true, false, cond, List, [], ◌∷◌, ◌++◌, length, get_or, Option, Some, None, decimal, refl, sym, ap, subst, ◌∙◌, arith, rules}
 use Rattle.std.specs.Prelude.{bytes_eq}
-use Rattle.std.proofs.lemmas.Bool.{false_from_ne_true}
 use Rattle.std.proofs.lemmas.Option.{same_Some}
-use Rattle.std.proofs.lemmas.Slice.Eq.{bytes_eq-Decides}
 use Rattle.std.specs.Char.{is_ascii_digit}
 use Rattle.std.specs.List.{list_all}
 use Rattle.std.specs.Option.{option_map}
@@ -20,6 +18,7 @@ use Rattle.graph_core.specs.Kind.{Shape, ports}
 use Rattle.graph_core.specs.NamedGraph.{NamedGraph, IsTyped}
 use Rattle.graph_core.specs.Laws.{PortsAreShapes}
 use Rattle.graph_read.specs.GraphReading.{named_in}
+use Rattle.graphiti.proofs.Lookups.{same_bytes, other_bytes}
 use Rattle.graphiti.proofs.EdgesBack.{NamesPorts}
 
 -- the number that digits say
@@ -78,7 +77,7 @@ same_number : (side : Side) (a b : ℕ) → a < 2 ^ 64 → b < 2 ^ 64 → port_n
 same_number side a b small also same = same_Some a b (sym (name_read side a small) ∙ ap (port_number side) same ∙ name_read side b also)
 
 other_name : (side : Side) (a b : ℕ) → a < 2 ^ 64 → b < 2 ^ 64 → a ≢ b → bytes_eq (port_name side a) (port_name side b) ≡ false
-other_name side a b small also other = false_from_ne_true (bytes_eq (port_name side a) (port_name side b)) (λ test. other (same_number side a b small also ((bytes_eq-Decides (port_name side a) (port_name side b)).0 test)))
+other_name side a b small also other = other_bytes (port_name side a) (port_name side b) (λ same. other (same_number side a b small also same))
 
 -- a port is found by its name
 found_from : (side : Side) (number i : ℕ) (shapes : List Shape) (shape : Shape) → number + length shapes ≤ 1000 → port_get shapes (suc i) ≡ Some shape →
@@ -86,7 +85,7 @@ found_from : (side : Side) (number i : ℕ) (shapes : List Shape) (shape : Shape
 found_from side number i [] shape few is = absurd (cc)
 found_from side number zero (x ∷ shapes) shape few is =
     let same : number + 0 ≡ number = omega arith in
-    let test : bytes_eq (port_name side (number + 0)) (port_name side number) ≡ true = (bytes_eq-Decides (port_name side (number + 0)) (port_name side number)).1 (ap (port_name side) same) in
+    let test : bytes_eq (port_name side (number + 0)) (port_name side number) ≡ true = same_bytes (port_name side (number + 0)) (port_name side number) (ap (port_name side) same) in
     ap (λ t. cond t (Some (number, x)) (named_in side (port_name side (number + 0)) (number + 1) shapes)) test
     ∙ (λ j. Some (sym same j, same_Some x shape is j))
 found_from side number (suc i) (x ∷ shapes) shape few is =

@@ -5,8 +5,7 @@ use Rattle.graph_core.specs.Name.{Name}
 use Rattle.graph_core.specs.Node.{Body}
 use Rattle.graph_core.specs.NamedGraph.{NamedGraph}
 use Rattle.graphiti.specs.Behaviour.{StrippedTyped}
-use Rattle.graphiti.specs.CanonicalTexts.{KeptTexts}
-use Rattle.graphiti.specs.ReadBack.{CanBeRead, StrippedCanBeRead}
+use Rattle.graphiti.specs.ReadBack.{StrippedCanBeRead}
 use Rattle.graphiti.specs.Stripped.{IsStripped}
 use Rattle.graphiti.proofs.Lookups.{name_total, name_same}
 use Rattle.graphiti.proofs.MapEntries.{fewer_entries}
