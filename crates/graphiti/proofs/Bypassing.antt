@@ -1,7 +1,6 @@
 -- Taking a Buffer out and joining what fed it to what it fed.
 use Rattle.std.proofs.Common.{◌≡◌, ◌≢◌, inr, Bool, true, false, cond, not, ◌||◌, refl, sym, ap, subst, ◌∙◌, Option, Some, None, IsSome, IfSome, is_some, IsSomeAnd, bytes_eq, true≢false}
 use Rattle.std.proofs.lemmas.Option.{none-some}
-use Rattle.std.proofs.lemmas.Slice.Eq.{bytes_eq-Decides}
 use Rattle.std.specs.Option.{option_map}
 use Rattle.std.specs.FinMap as map
 use Rattle.graph_core.specs.declared.kind.Kind.TheVariants.{Buffer}
@@ -17,8 +16,8 @@ use Rattle.module_sem.specs.Buffers.{first_port}
 use Rattle.graphiti.specs.Stripped.{IsBufferKind, IsBuffer}
 use Rattle.graphiti.specs.Strips.{Drops, StaysAtTurn}
 use Rattle.graphiti.specs.Bypass.{IsFedBuffer}
-use Rattle.graphiti.proofs.Lookups.{port_total, port_same, get_inserted, get_retained}
-use Rattle.graphiti.proofs.Dropping.{Bypasses, neither, found_if, buffer_feeds, buffer_output, drops_bypasses, typed_after}
+use Rattle.graphiti.proofs.Lookups.{port_total, port_same, get_inserted, get_retained, found_if, same_bytes}
+use Rattle.graphiti.proofs.Dropping.{Bypasses, neither, buffer_feeds, buffer_output, drops_bypasses, typed_after}
 use Rattle.graphiti.proofs.NodesById.{node_without}
 
 -- By names
@@ -55,7 +54,7 @@ module _ (g : NamedGraph) (typed : IsTyped g) (name : Name) (source target : Por
   feeder_left p = get_retained port_total port_same g.feeders _ p
 
   itself : bytes_eq name name ≡ true
-  itself = (bytes_eq-Decides name name).1 refl
+  itself = same_bytes name name refl
 
   source_free : (p : Port) → map.get (without_node g name).feeders p ≢ Some source
   source_free p wired =

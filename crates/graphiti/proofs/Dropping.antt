@@ -1,8 +1,6 @@
 -- A typed graph without one of its Buffers.
 use Rattle.std.proofs.Common.{◌≡◌, ◌≢◌, ◌⊎◌, ℕ, zero, suc, Bool, true, false, cond, not, ◌||◌, inl, inr, refl, sym, ap, subst, ◌∙◌, [], ◌∷◌, Option, Some, None, IsSomeAnd, bytes_eq, true≢false}
 use Rattle.std.proofs.lemmas.Option.{none-some, same_Some}
-use Rattle.std.proofs.lemmas.Slice.Eq.{bytes_eq-Decides}
-use Rattle.std.proofs.lemmas.Bool.{false_from_ne_true}
 use Rattle.std.specs.FinMap as map
 use Rattle.graph_core.specs.declared.kind.Kind.{Kind}
 use Rattle.graph_core.specs.declared.kind.Kind.TheVariants.{Buffer}
@@ -13,7 +11,7 @@ use Rattle.graph_core.specs.NamedGraph.{NamedGraph, IsTyped, IsWire, is_of, with
 use Rattle.module_sem.specs.Buffers.{first_port}
 use Rattle.graphiti.specs.Stripped.{IsBufferKind, IsBuffer}
 use Rattle.graphiti.specs.Strips.{Drops, Turn}
-use Rattle.graphiti.proofs.Lookups.{name_total, name_same, port_total, port_same, name_cases, port_cases, get_inserted, get_not_inserted, get_removed, get_not_removed, get_retained}
+use Rattle.graphiti.proofs.Lookups.{name_total, name_same, port_total, port_same, name_cases, port_cases, get_inserted, get_not_inserted, get_removed, get_not_removed, get_retained, found_if, same_bytes, other_bytes}
 
 -- a Buffer with its node
 pub record BufferAt (g : NamedGraph) (name : Name) : Type 0 where
@@ -111,10 +109,6 @@ neither false false e = (refl, refl)
 not_either : (a b : Bool) → a ≡ false → b ≡ false → not (a || b) ≡ true
 not_either a b e f = ap (λ t. not (t || b)) e ∙ ap not f
 
-pub found_if : {A : Type 0} (t : Bool) (o : Option A) (x : A) → cond t o None ≡ Some x → (t ≡ true) × (o ≡ Some x)
-found_if true o x e = (refl, e)
-found_if false o x e = absurd (none-some x e)
-
 module _ (g : NamedGraph) (typed : IsTyped g) (b : Name) (h : NamedGraph) (drop : Drops g b h) where
   is_far : Port → Bool
   is_far p = not (is_of b (Some p) || is_of b (map.get g.feeders p))
@@ -131,10 +125,7 @@ module _ (g : NamedGraph) (typed : IsTyped g) (b : Name) (h : NamedGraph) (drop 
       ap (λ (z : NamedGraph). map.get z.feeders p) drop.after ∙ get_inserted port_total port_same (without_node g b).feeders drop.target drop.source p is
 
   other_name : (name : Name) → bytes_eq name b ≡ false → name ≢ b
-  other_name name e is = true≢false (sym ((bytes_eq-Decides name b).1 is) ∙ e)
-
-  far_name : (name : Name) → name ≢ b → bytes_eq name b ≡ false
-  far_name name other = false_from_ne_true (bytes_eq name b) (λ e. other ((bytes_eq-Decides name b).0 e))
+  other_name name e is = true≢false (sym (same_bytes name b is) ∙ e)
 
   moved_away : drop.target.node ≢ b
   moved_away is =
@@ -146,7 +137,7 @@ module _ (g : NamedGraph) (typed : IsTyped g) (b : Name) (h : NamedGraph) (drop 
   unfolding is_far
   kept p q other_p other_q wired =
       let apart : p ≢ drop.target = λ is. other_q (ap (λ (z : Port). z.node) (same_Some q (first_port b) (sym wired ∙ ap (map.get g.feeders) is ∙ drop.feeds))) in
-      let far : is_far p ≡ true = not_either (is_of b (Some p)) (is_of b (map.get g.feeders p)) (far_name p.node other_p) (ap (is_of b) wired ∙ far_name q.node other_q) in
+      let far : is_far p ≡ true = not_either (is_of b (Some p)) (is_of b (map.get g.feeders p)) (other_bytes p.node b other_p) (ap (is_of b) wired ∙ other_bytes q.node b other_q) in
       feeder_after p apart ∙ ap (λ t. cond t (map.get g.feeders p) None) far ∙ wired
 
   from_far : (p q : Port) → (is_far p ≡ true) × (map.get g.feeders p ≡ Some q) → (p.node ≢ b) × (q.node ≢ b)

@@ -1,11 +1,12 @@
 -- The edges of a canonical document are read as the wires of the graph.
-use Rattle.std.proofs.Common.{◌≡◌, ◌≢◌, ℕ, ◌+◌, Bool, true, false, cond, T, ◌&&◌, ◌||◌, ◌==◌, List, [], ◌∷◌, ◌++◌, map, Some, None, Ok, Err, is_some, refl, sym, ap, subst, ◌∙◌}
+use Rattle.std.proofs.Common.{◌≡◌, ◌≢◌, ℕ, ◌+◌, Bool, true, false, cond, ◌&&◌, ◌||◌, ◌==◌, List, [], ◌∷◌, ◌++◌, map, Some, None, Ok, Err, is_some, refl, sym, ap, ◌∙◌}
 use Rattle.std.specs.Prelude.{bytes_eq}
 use Rattle.std.specs.Option.{option_or}
 use Rattle.std.specs.FinMap as map_of
-use Rattle.std.specs.FinMap.Entries.{find, is_sorted}
+use Rattle.std.specs.FinMap.Entries.{find}
 use Rattle.std.proofs.lemmas.Bool.{and_parts, eqb-true, false_from_ne_true}
 use Rattle.std.proofs.lemmas.List.{append-nil, append_assoc}
+use Rattle.std.proofs.lemmas.Option.{none-some}
 use Rattle.std.proofs.lemmas.Slice.Eq.{bytes_eq-Decides}
 use Rattle.port_types.specs.declared.side.Side.{Side}
 use Rattle.port_types.specs.declared.side.Side.TheVariants.{Ins, Outs}
@@ -18,8 +19,8 @@ use Rattle.graph_print.specs.CanonicalText.{edge_entry}
 use Rattle.graph_read.specs.declared.fault.GraphFaultKind.TheVariants.{PortTaken, ShapeDiffers}
 use Rattle.graph_read.specs.GraphReading.{NamedWire, port_there, wire_between, edge_between, edge_reading, edges_reading, then_read}
 use Rattle.graphiti.proofs.EntryLists as lists
-use Rattle.graphiti.proofs.Lookups.{port_total, port_same}
-use Rattle.graphiti.proofs.MapEntries.{none_is, none_passes, each_entry}
+use Rattle.graphiti.proofs.Lookups.{port_total, port_same, same_bytes}
+use Rattle.graphiti.proofs.MapEntries.{none_before, found_there, none_passes, each_entry}
 
 abbrev Wire : Type 0
 Wire = Port × Port
@@ -58,14 +59,11 @@ module _ (g : NamedGraph) (typed : IsTyped g) (named : NamesPorts g) where
     found_whole : (q : Port) (p : Port) → find port_cmp q (before ++ wire ∷ after) ≡ Some p → map_of.get g.feeders q ≡ Some p
     found_whole q p found = map_of.get-entries g.feeders q ∙ ap (find port_cmp q) whole ∙ found
 
-    sorted : T (is_sorted port_cmp (before ++ wire ∷ after))
-    sorted = subst (λ (es : List Wire). T (is_sorted port_cmp es)) whole (map_of.entries_sorted g.feeders)
-
     new_target : find port_cmp target before ≡ None
-    new_target = lists.find_before port_cmp port_total before wire after sorted
+    new_target = none_before port_total port_same g.feeders before wire after whole
 
     here : map_of.get g.feeders target ≡ Some source
-    here = found_whole target source (lists.find_here port_cmp port_total before wire after sorted)
+    here = found_there port_total port_same g.feeders before wire after whole
 
     target_free : map_of.get (with_wires before).feeders target ≡ None
     target_free = map_of.get-from_entries port_total before target ∙ new_target
@@ -74,7 +72,7 @@ module _ (g : NamedGraph) (typed : IsTyped g) (named : NamesPorts g) where
     other_source : (q p : Port) → find port_cmp q before ≡ Some p → p ≢ source
     other_source q p found is =
         let also : map_of.get g.feeders q ≡ Some source = found_whole q source (lists.find-append port_cmp q before (wire ∷ after) ∙ ap (λ f. option_or f (find port_cmp q (wire ∷ after))) found ∙ ap (λ (s : Port). Some s) is) in
-        none_is (find port_cmp q before) p (ap (λ (t : Port). find port_cmp t before) (typed.once q target source also here) ∙ new_target) found
+        none-some p (sym (ap (λ (t : Port). find port_cmp t before) (typed.once q target source also here) ∙ new_target) ∙ found)
 
     source_free : is_wired (with_wires before) Outs source ≡ false
     source_free =
@@ -92,7 +90,7 @@ module _ (g : NamedGraph) (typed : IsTyped g) (named : NamesPorts g) where
         (λ i. edge_between (with_wires before) (edge_entry wire) (right.is_from i) (right.is_to i))
         ∙ (λ i. wire_between (with_wires before) (out i) (into i))
         ∙ not_taken (is_some (map_of.get (with_wires before).feeders target)) (is_wired (with_wires before) Outs source) (record { source = source; target = target })
-        (bytes_eq right.shape right.shape) (ap is_some target_free) source_free ((bytes_eq-Decides right.shape right.shape).1 refl)
+        (bytes_eq right.shape right.shape) (ap is_some target_free) source_free (same_bytes right.shape right.shape refl)
 
   pub edges_back : (before after : List Wire) (place : ℕ) → map_of.entries g.feeders ≡ before ++ after → edges_reading (with_wires before) place (map edge_entry after) ≡ Ok (with_wires (before ++ after))
   edges_back before [] place whole = ap (λ (ws : List Wire). Ok (with_wires ws)) (sym (append-nil before))

@@ -15,7 +15,7 @@ use Rattle.graphiti.proofs.Dropping.{Bypasses, node_other, same_buffer, buffer_a
 abbrev pub Reaches : NamedGraph → Port → Port → Type 0
 Reaches g found source = (found ≡ source) ⊎ ((buffer : Name) × (found ≡ first_port buffer) × IsBuffer g buffer × Meets g (first_port buffer) source)
 
-pub meets_from : (g : NamedGraph) (target found source : Port) → map.get g.feeders target ≡ Some found → Reaches g found source → Meets g target source
+meets_from : (g : NamedGraph) (target found source : Port) → map.get g.feeders target ≡ Some found → Reaches g found source → Meets g target source
 meets_from g target found source wired (inl is) = feeds target source (wired ∙ ap Some is)
 meets_from g target found source wired (inr past) = beyond target source past.0 (wired ∙ ap Some past.1) past.2 past.3
 
@@ -61,7 +61,7 @@ module _ (g : NamedGraph) (b : Name) (h : NamedGraph) (past : Bypasses g b h) wh
   pub buffer_before : (name : Name) → IsBuffer h name → IsBuffer g name
   buffer_before name is = same_buffer h g name (past.node_kept name (buffer_other name is)) is
 
-  pub buffer_after : (name : Name) → name ≢ b → IsBuffer g name → IsBuffer h name
+  buffer_after : (name : Name) → name ≢ b → IsBuffer g name → IsBuffer h name
   buffer_after name other = same_buffer g h name (sym (past.node_kept name other))
 
   meets_before : (p q : Port) → Meets h p q → Meets g p q

@@ -1,15 +1,17 @@
 -- The node statements of a canonical document are read as the nodes of the graph.
-use Rattle.std.proofs.Common.{◌≡◌, ◌≢◌, ℕ, ◌+◌, ◌≤◌, Bool, true, false, cond, not, ◌||◌, T, List, [], ◌∷◌, ◌++◌, length, map, Option, Some, None, Ok, Err, refl, sym, ap, subst, ◌∙◌, arith, length-append}
+use Rattle.std.proofs.Common.{◌≡◌, ◌≢◌, ℕ, ◌+◌, ◌≤◌, Bool, true, false, cond, not, ◌||◌, List, [], ◌∷◌, ◌++◌, length, map, Option, Some, None, Ok, Err, refl, sym, ap, subst, ◌∙◌, arith, length-append}
 use Rattle.std.specs.Prelude.{bytes_eq, nat_le}
-use Rattle.std.specs.List.{AllByRecursion, list_any, list_all}
+use Rattle.std.specs.List.{AllByRecursion, list_any}
+use Rattle.std.specs.Option.{option_or}
+use Rattle.std.specs.Ordering.{eq_by_cmp}
 use Rattle.std.specs.FinMap as map_of
-use Rattle.std.specs.FinMap.Entries.{find, is_sorted}
-use Rattle.std.proofs.lemmas.Bool.{le-leb, and_from, false_from_ne_true}
+use Rattle.std.specs.FinMap.Entries.{find}
+use Rattle.std.proofs.lemmas.Bool.{le-leb, and_from}
 use Rattle.std.proofs.lemmas.Bool.Decides.{nat_tests}
 use Rattle.std.proofs.lemmas.List.{append-nil, append_assoc, map-append}
 use Rattle.std.proofs.lemmas.List.Elements.{All-weaker}
 use Rattle.std.proofs.lemmas.List.Sums.{list_all-from_AllPass}
-use Rattle.std.proofs.lemmas.Slice.Eq.{bytes_eq-Decides}
+use Rattle.std.proofs.lemmas.Option.{none-some}
 use Rattle.graph_core.specs.Name.{Name, name_cmp, IsName, IsNameByte}
 use Rattle.graph_core.specs.Node.{Body}
 use Rattle.graph_core.specs.NamedGraph.{NamedGraph, IsNamed}
@@ -18,8 +20,9 @@ use Rattle.graph_read.specs.declared.fault.GraphFaultKind.TheVariants.{BadName, 
 use Rattle.graph_read.specs.NodeReading.{NodeReading, is_name, is_name_byte, body_reading, within_limit, node_reading}
 use Rattle.graph_read.specs.GraphReading.{then_read, names_of, nodes_reading}
 use Rattle.graphiti.proofs.EntryLists as lists
-use Rattle.graphiti.proofs.Lookups.{name_total}
-use Rattle.graphiti.proofs.MapEntries.{none_is}
+use Rattle.graphiti.proofs.Lookups.{name_total, name_same, other_bytes}
+use Rattle.graphiti.proofs.Each.{each_append, each_changed}
+use Rattle.graphiti.proofs.MapEntries.{none_before, found_there}
 
 -- ---- the tests of a node
 
@@ -49,17 +52,14 @@ AreNamesOf nodes names = AllByRecursion (λ name. find name_cmp name nodes ≢ N
 
 module _ (g : NamedGraph) (named : IsNamed g) (says : SaysBodies g) (few : map_of.len g.nodes ≤ 65536) where
   module _ (before : List (Name × Body)) (node : Name × Body) (after : List (Name × Body)) (whole : map_of.entries g.nodes ≡ before ++ node ∷ after) where
-    sorted : T (is_sorted name_cmp (before ++ node ∷ after))
-    sorted = subst (λ (es : List (Name × Body)). T (is_sorted name_cmp es)) whole (map_of.entries_sorted g.nodes)
-
     there : map_of.get g.nodes node.0 ≡ Some node.1
-    there = map_of.get-entries g.nodes node.0 ∙ ap (find name_cmp node.0) whole ∙ lists.find_here name_cmp name_total before node after sorted
+    there = found_there name_total name_same g.nodes before node after whole
 
     not_taken : (names : List Name) → AreNamesOf before names → list_any (bytes_eq node.0) names ≡ false
     not_taken [] are = refl
     not_taken (name ∷ names) are =
         let other : bytes_eq node.0 name ≡ false =
-        false_from_ne_true (bytes_eq node.0 name) (λ test. are.0 (ap (λ (n : Name). find name_cmp n before) (sym ((bytes_eq-Decides node.0 name).0 test)) ∙ lists.find_before name_cmp name_total before node after sorted)) in
+        other_bytes node.0 name (λ same. are.0 (ap (λ (n : Name). find name_cmp n before) (sym same) ∙ none_before name_total name_same g.nodes before node after whole)) in
         (λ i. other i || list_any (bytes_eq node.0) names) ∙ not_taken names are.1
 
     in_limit : length before + 1 ≤ 65536
@@ -72,29 +72,26 @@ module _ (g : NamedGraph) (named : IsNamed g) (says : SaysBodies g) (few : map_o
 
   -- the names so far, with one more
   still : (before : List (Name × Body)) (node : Name × Body) (names : List Name) → AreNamesOf before names → AreNamesOf (before ++ node ∷ []) names
-  still before node [] are = tt
-  still before node (name ∷ names) are = (λ none. are.0 (front_none (find name_cmp name before) (find name_cmp name (node ∷ [])) (sym (lists.find-append name_cmp name before (node ∷ [])) ∙ none)), still before node names are.1)
+  still before node =
+      each_changed (λ name. find name_cmp name before ≢ None) (λ name. find name_cmp name (before ++ node ∷ []) ≢ None) (λ name was none.
+      was (front_none (find name_cmp name before) (find name_cmp name (node ∷ [])) (sym (lists.find-append name_cmp name before (node ∷ [])) ∙ none)))
     where
-      front_none : {A : Type 0} (o p : Option A) → Rattle.std.specs.Option.option_or o p ≡ None → o ≡ None
+      front_none : {A : Type 0} (o p : Option A) → option_or o p ≡ None → o ≡ None
       front_none None p e = refl
       front_none (Some x) p e = e
 
   last_is_there : (before : List (Name × Body)) (node : Name × Body) → find name_cmp node.0 (before ++ node ∷ []) ≢ None
-  last_is_there [] node none = none_is (find name_cmp node.0 (node ∷ [])) node.1 none (lists.find_first name_cmp name_total node [])
-  last_is_there (e ∷ before) node none = last_is_there before node (behind_none (Rattle.std.specs.Ordering.eq_by_cmp name_cmp node.0 e.0) e.1 (find name_cmp node.0 (before ++ node ∷ [])) none)
+  last_is_there [] node none = none-some node.1 (sym none ∙ lists.find_first name_cmp name_total node [])
+  last_is_there (e ∷ before) node none = last_is_there before node (behind_none (eq_by_cmp name_cmp node.0 e.0) e.1 (find name_cmp node.0 (before ++ node ∷ [])) none)
     where
       behind_none : {A : Type 0} (b : Bool) (x : A) (p : Option A) → cond b (Some x) p ≡ None → p ≡ None
-      behind_none true x p e = absurd (none_is (Some x) x e refl)
+      behind_none true x p e = absurd (none-some x (sym e))
       behind_none false x p e = e
-
-  are_append : (nodes : List (Name × Body)) (names more : List Name) → AreNamesOf nodes names → AreNamesOf nodes more → AreNamesOf nodes (names ++ more)
-  are_append nodes [] more are also = also
-  are_append nodes (name ∷ names) more are also = (are.0, are_append nodes names more are.1 also)
 
   one_more : (before : List (Name × Body)) (node : Name × Body) → AreNamesOf before (names_of before) → AreNamesOf (before ++ node ∷ []) (names_of (before ++ node ∷ []))
   one_more before node are =
       subst (AreNamesOf (before ++ node ∷ [])) (sym (map-append (λ (e : Name × Body). e.0) before (node ∷ [])))
-      (are_append (before ++ node ∷ []) (names_of before) (node.0 ∷ []) (still before node (names_of before) are) (last_is_there before node, tt))
+      (each_append (λ name. find name_cmp name (before ++ node ∷ []) ≢ None) (names_of before) (node.0 ∷ []) (still before node (names_of before) are) (last_is_there before node, tt))
 
   nodes_from : (before after : List (Name × Body)) (place : ℕ) → map_of.entries g.nodes ≡ before ++ after → AreNamesOf before (names_of before) →
       place ≡ length before + 1 → nodes_reading before place (map node_entry after) ≡ Ok (before ++ after)

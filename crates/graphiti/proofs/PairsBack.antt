@@ -5,10 +5,9 @@ use Rattle.std.specs.List.{AllByRecursion}
 use Rattle.std.specs.Option.{option_or}
 use Rattle.std.specs.FinMap as map
 use Rattle.std.specs.FinMap.Entries.{find, is_sorted}
-use Rattle.std.proofs.lemmas.Bool.{true≢false, false_from_ne_true}
+use Rattle.std.proofs.lemmas.Bool.{true≢false}
 use Rattle.std.proofs.lemmas.List.{reverse-append}
 use Rattle.std.proofs.lemmas.List.Elements.{filter-append}
-use Rattle.std.proofs.lemmas.Slice.Eq.{bytes_eq-Decides}
 use Rattle.port_types.specs.declared.side.Side.{Side}
 use Rattle.port_types.specs.declared.side.Side.TheVariants.{Ins, Outs}
 use Rattle.port_types.specs.PortText.{side_word, marked_ports_text}
@@ -19,15 +18,10 @@ use Rattle.graph_core.specs.Node.{Body, IsOwned, is_owned}
 use Rattle.graph_print.specs.CanonicalText.{PrintedPort, kind_word, own_pairs, side_pairs, printed_side, marked_ports, pairs_of}
 use Rattle.graph_read.specs.Attributes.{Pair, last_value, kept_of}
 use Rattle.graphiti.proofs.EntryLists as lists
-use Rattle.graphiti.proofs.Lookups.{name_total, name_same, name_cases, same_test, other_test}
+use Rattle.graphiti.proofs.Lookups.{name_total, name_same, name_cases, same_test, other_test, same_bytes, other_bytes}
+use Rattle.graphiti.proofs.Each.{each_append}
 
 -- ---- values of keys
-
-same_bytes : (a b : List ℕ) → a ≡ b → bytes_eq b a ≡ true
-same_bytes a b e = (bytes_eq-Decides b a).1 (sym e)
-
-other_bytes : (a b : List ℕ) → a ≢ b → bytes_eq b a ≡ false
-other_bytes a b other = false_from_ne_true (bytes_eq b a) (λ e. other (sym ((bytes_eq-Decides b a).0 e)))
 
 or_none : (o : Option (List ℕ)) → option_or o None ≡ o
 or_none None = refl
@@ -51,10 +45,10 @@ last_value-sorted key (pair ∷ pairs) sorted =
       | inl same ↦
           let later : last_value key pairs ≡ None =
           last_value-sorted key pairs (lists.second _ _ sorted) ∙ ap (λ (k : Name). find name_cmp k pairs) same ∙ lists.find_below name_cmp pair.0 pairs (lists.first _ _ sorted) in
-          (λ i. option_or (later i) (cond (same_bytes key pair.0 same i) (Some pair.1) None))
+          (λ i. option_or (later i) (cond (same_bytes pair.0 key (sym same) i) (Some pair.1) None))
           ∙ sym (ap (λ t. cond t (Some pair.1) (find name_cmp key pairs)) (same_test name_total name_same key pair.0 same))
       | inr other ↦
-          ap (λ (t : Bool). option_or (last_value key pairs) (cond t (Some pair.1) None)) (other_bytes key pair.0 other)
+          ap (λ (t : Bool). option_or (last_value key pairs) (cond t (Some pair.1) None)) (other_bytes pair.0 key (λ is. other (sym is)))
           ∙ or_none (last_value key pairs) ∙ last_value-sorted key pairs (lists.second _ _ sorted)
           ∙ sym (ap (λ t. cond t (Some pair.1) (find name_cmp key pairs)) (other_test name_total name_same key pair.0 other))
     ]
@@ -74,7 +68,7 @@ side_last Outs (port ∷ ports) = refl
 
 side_other : (key : List ℕ) (side : Side) (ports : List PrintedPort) → key ≢ side_word side → last_value key (printed_side side ports) ≡ None
 side_other key side [] other = refl
-side_other key side (port ∷ ports) other = ap (λ (t : Bool). cond t (Some (marked_ports_text side (port ∷ ports))) None) (other_bytes key (side_word side) other)
+side_other key side (port ∷ ports) other = ap (λ (t : Bool). cond t (Some (marked_ports_text side (port ∷ ports))) None) (other_bytes (side_word side) key (λ is. other (sym is)))
 
 -- the attributes that the kind alone owns say neither its type nor its ports
 own_says_no : (kind : Kind) → (last_value (codes "type") (own_pairs kind) ≡ None) × (last_value (codes "in") (own_pairs kind) ≡ None) × (last_value (codes "out") (own_pairs kind) ≡ None)
@@ -99,10 +93,6 @@ own_says_no (Tagger shape tags) = (refl, refl, refl)
 -- the kind owns each key of these pairs
 abbrev AreOwned : Kind → List Pair → Type 0
 AreOwned kind pairs = AllByRecursion (λ pair. is_owned kind pair.0 ≡ true) pairs
-
-owned_append : (kind : Kind) (xs ys : List Pair) → AreOwned kind xs → AreOwned kind ys → AreOwned kind (xs ++ ys)
-owned_append kind [] ys p q = q
-owned_append kind (x ∷ xs) ys p q = (p.0, owned_append kind xs ys p.1 q)
 
 side_owned : (kind : Kind) (side : Side) (ports : List PrintedPort) → AreOwned kind (printed_side side ports)
 side_owned kind side [] = tt
@@ -132,8 +122,8 @@ own_owned (Tagger shape tags) = (refl, tt)
 unowned_last : (kind : Kind) (key : List ℕ) (pairs : List Pair) → is_owned kind key ≡ false → AreOwned kind pairs → last_value key pairs ≡ None
 unowned_last kind key [] free owned = refl
 unowned_last kind key (pair ∷ pairs) free owned =
-    let other : key ≢ pair.0 = λ is. true≢false (sym owned.0 ∙ ap (is_owned kind) (sym is) ∙ free) in
-    (λ i. option_or (unowned_last kind key pairs free owned.1 i) (cond (other_bytes key pair.0 other i) (Some pair.1) None))
+    let other : pair.0 ≢ key = λ is. true≢false (sym owned.0 ∙ ap (is_owned kind) is ∙ free) in
+    (λ i. option_or (unowned_last kind key pairs free owned.1 i) (cond (other_bytes pair.0 key other i) (Some pair.1) None))
 
 module _ (kind : Kind) where
   abbrev first_pair : Pair
@@ -142,10 +132,13 @@ module _ (kind : Kind) where
   abbrev pub front : List Pair
   front = first_pair ∷ side_pairs kind Ins ++ side_pairs kind Outs ++ own_pairs kind
 
+  abbrev IsOwnedPair : Pair → Type 0
+  IsOwnedPair pair = is_owned kind pair.0 ≡ true
+
   front_owned : AreOwned kind front
   front_owned =
-      owned_append kind (first_pair ∷ side_pairs kind Ins ++ side_pairs kind Outs) (own_pairs kind)
-      (owned_append kind (first_pair ∷ side_pairs kind Ins) (side_pairs kind Outs) (refl, side_owned kind Ins (marked_ports kind Ins)) (side_owned kind Outs (marked_ports kind Outs))) (own_owned kind)
+      each_append IsOwnedPair (first_pair ∷ side_pairs kind Ins ++ side_pairs kind Outs) (own_pairs kind)
+      (each_append IsOwnedPair (first_pair ∷ side_pairs kind Ins) (side_pairs kind Outs) (refl, side_owned kind Ins (marked_ports kind Ins)) (side_owned kind Outs (marked_ports kind Outs))) (own_owned kind)
 
   -- part by part, from the last
   in_parts : (key : List ℕ) → last_value key front ≡ option_or (last_value key (own_pairs kind)) (option_or (last_value key (side_pairs kind Outs)) (option_or (last_value key (side_pairs kind Ins)) (last_value key (first_pair ∷ []))))
@@ -246,7 +239,7 @@ module _ (kind : Kind) where
 
   at_another : (pair : Pair) (q : Name) → q ≢ pair.0 → OneKept pair q
   unfolding OneKept
-  at_another pair q other = rw (other_bytes q pair.0 other) (other_kept q pair other (is_owned kind pair.0) ∙ sym (none_twice (is_owned kind q)))
+  at_another pair q other = rw (other_bytes pair.0 q (λ is. other (sym is))) (other_kept q pair other (is_owned kind pair.0) ∙ sym (none_twice (is_owned kind q)))
 
   one_kept : (q : Name) (pair : Pair) → OneKept pair q
   one_kept q pair =

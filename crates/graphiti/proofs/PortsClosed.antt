@@ -1,29 +1,26 @@
 -- In a typed graph no port is on no wire.
-use Rattle.std.proofs.Common.{◌≡◌, ℕ, suc, ◌+◌, true, cond, ◌&&◌, ◌==◌, T, List, [], ◌∷◌, ◌++◌, Some, None, is_some, refl, sym, ap, subst, ◌∙◌, arith}
+use Rattle.std.proofs.Common.{◌≡◌, ℕ, suc, ◌+◌, true, cond, ◌&&◌, ◌==◌, List, [], ◌∷◌, ◌++◌, Some, None, is_some, refl, sym, ap, subst, ◌∙◌, arith}
 use Rattle.std.specs.Prelude.{bytes_eq}
 use Rattle.std.specs.Option.{option_or, option_map}
 use Rattle.std.specs.FinMap as map_of
-use Rattle.std.specs.FinMap.Entries.{find, is_sorted}
 use Rattle.std.proofs.lemmas.Bool.{and_from, eq-eqb}
 use Rattle.std.proofs.lemmas.List.{append_assoc}
-use Rattle.std.proofs.lemmas.Slice.Eq.{bytes_eq-Decides}
 use Rattle.port_types.specs.declared.side.Side.{Side}
 use Rattle.port_types.specs.declared.side.Side.TheVariants.{Ins, Outs}
-use Rattle.graph_core.specs.Name.{Name, Port, name_cmp, port_get}
+use Rattle.graph_core.specs.Name.{Name, Port, port_get}
 use Rattle.graph_core.specs.Kind.{Shape, ports}
 use Rattle.graph_core.specs.Node.{Body}
 use Rattle.graph_core.specs.NamedGraph.{NamedGraph, IsTyped, is_wired}
 use Rattle.graph_read.specs.GraphReading.{first_free, open_port, open_refusal, first_open}
-use Rattle.graphiti.proofs.EntryLists as lists
-use Rattle.graphiti.proofs.Lookups.{name_total, port_total, port_same}
-use Rattle.graphiti.proofs.MapEntries.{found_passes}
+use Rattle.graphiti.proofs.Lookups.{name_total, name_same, port_total, port_same, same_bytes}
+use Rattle.graphiti.proofs.MapEntries.{found_there, found_passes}
 
 module _ (g : NamedGraph) (typed : IsTyped g) where
   -- the output feeds the wire that is there
   feeding : (p target : Port) → map_of.get g.feeders target ≡ Some p → is_wired g Outs p ≡ true
   feeding p target is =
       found_passes port_total port_same (λ wire. bytes_eq wire.1.node p.node && (wire.1.port == p.port)) target p
-      (λ q. and_from (bytes_eq p.node p.node) (p.port == p.port) ((bytes_eq-Decides p.node p.node).1 refl) (eq-eqb p.port p.port refl)) (map_of.entries g.feeders)
+      (λ q. and_from (bytes_eq p.node p.node) (p.port == p.port) (same_bytes p.node p.node refl) (eq-eqb p.port p.port refl)) (map_of.entries g.feeders)
       (sym (map_of.get-entries g.feeders target) ∙ is)
 
   wired : (side : Side) (name : Name) (body : Body) (number : ℕ) (shape : Shape) → map_of.get g.nodes name ≡ Some body → port_get (ports body.kind side) number ≡ Some shape →
@@ -57,9 +54,7 @@ module _ (g : NamedGraph) (typed : IsTyped g) where
   from_here : (before after : List (Name × Body)) (place : ℕ) → map_of.entries g.nodes ≡ before ++ after → first_open g place after ≡ None
   from_here before [] place whole = refl
   from_here before (node ∷ after) place whole =
-      let sorted : T (is_sorted name_cmp (before ++ node ∷ after)) = subst (λ (es : List (Name × Body)). T (is_sorted name_cmp es)) whole (map_of.entries_sorted g.nodes) in
-      let there : map_of.get g.nodes node.0 ≡ Some node.1 =
-      map_of.get-entries g.nodes node.0 ∙ ap (find name_cmp node.0) whole ∙ lists.find_here name_cmp name_total before node after sorted in
+      let there = found_there name_total name_same g.nodes before node after whole in
       ap (λ o. option_or (open_refusal place node.0 o) (first_open g (place + 1) after)) (node_closed node.0 node.1 there)
       ∙ from_here (before ++ node ∷ []) after (place + 1) (whole ∙ sym (append_assoc before (node ∷ []) after))
 

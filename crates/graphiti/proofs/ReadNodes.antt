@@ -8,6 +8,7 @@ use Rattle.std.specs.Str.{IsUtf8}
 use Rattle.std.specs.FinMap as map_of
 use Rattle.std.proofs.lemmas.Slice.Eq.{bytes_eq-Decides}
 use Rattle.std.proofs.lemmas.Bool.{ltb-true}
+use Rattle.std.proofs.lemmas.Option.{none-some, same_Some, cond_some}
 use Rattle.std.proofs.lemmas.List.{length-map}
 use Rattle.std.proofs.lemmas.List.Elements.{recursion_from_All, All-from_recursion, All-nil}
 use Rattle.port_types.specs.Shape.{IsShape}
@@ -39,13 +40,14 @@ use Rattle.graph_read.specs.GraphReading.{refusal, graph_reading, NamedWire, Nod
 use Rattle.graph_read.specs.Laws.{AreRead, RowsAreMet, Says}
 use Rattle.graphiti.specs.CanonicalReading.{ValueFits, ReadFits}
 use Rattle.graphiti.specs.CanonicalTexts.{KeptTexts, ReadTexts}
-use Rattle.graphiti.proofs.Lookups.{name_total, name_same}
-use Rattle.graphiti.proofs.MapEntries.{none_is, some_is, found_entry}
+use Rattle.graphiti.proofs.Lookups.{name_total, name_same, found_if}
+use Rattle.graphiti.proofs.Each.{each_append, each_mapped, each_changed}
+use Rattle.graphiti.proofs.MapEntries.{found_entry}
 use Rattle.graphiti.proofs.PairsBack.{in_reverse}
 
 -- ---- answers
 
-same_answer : {A E : Type 0} (x y : A) → ◌≡◌ {A = Result A E} (Ok x) (Ok y) → x ≡ y
+pub same_answer : {A E : Type 0} (x y : A) → ◌≡◌ {A = Result A E} (Ok x) (Ok y) → x ≡ y
 same_answer x y e = cc
 
 refused : {A E P : Type 0} (fault : E) (x : A) → ◌≡◌ {A = Result A E} (Err fault) (Ok x) → P
@@ -57,22 +59,16 @@ unless_refused false fault read x e = e
 
 -- ---- the value of a Constant
 
-in_word_fits : (b : Bool) (number value : ℕ) → nat_lt number (2 ^ 64) ≡ b → cond b (Some number) None ≡ Some value → value < 2 ^ 64
-in_word_fits true number value test e =
-    let same : number ≡ value = cc in
-    let small = ltb-true number (2 ^ 64) test in
-    omega (arith, same, small)
-in_word_fits false number value test e = absurd (none_is None value refl e)
-
-where_tested : (b : Bool) (o : Option ℕ) (value : ℕ) → cond b o None ≡ Some value → o ≡ Some value
-where_tested true o value e = e
-where_tested false o value e = absurd (none_is None value refl e)
+word_fits : (number value : ℕ) → in_word number ≡ Some value → value < 2 ^ 64
+word_fits number value e =
+    let parts = cond_some (nat_lt number (2 ^ 64)) number value e in
+    subst (λ (n : ℕ). n < 2 ^ 64) parts.1 (ltb-true number (2 ^ 64) parts.0)
 
 digits_fit : (is_digit : ℕ → Bool) (base : ℕ) (digits : List ℕ) (value : ℕ) → digits_of is_digit base digits ≡ Some value → value < 2 ^ 64
 digits_fit is_digit base digits value e =
     let number = digits_value base digits in
     let are = nat_le 1 (length digits) && list_all is_digit digits in
-    in_word_fits (nat_lt number (2 ^ 64)) number value refl (where_tested are (in_word number) value e)
+    word_fits number value (found_if are (in_word number) value e).1
 
 behind_fits : (digits : Option (List ℕ)) (text : List ℕ) (value : ℕ) → value_behind digits text ≡ Some value → value < 2 ^ 64
 behind_fits None text value e = digits_fit _ 10 text value e
@@ -89,18 +85,18 @@ kept_is body pairs is key =
     ap (λ (m : map_of.FinMap name_cmp (List ℕ)). map_of.get m key) is ∙ map_of.get-from_entries name_total _ key ∙ in_reverse body.kind key pairs
 
 where_free : (owned : Bool) (o : Option (List ℕ)) (value : List ℕ) → cond owned None o ≡ Some value → o ≡ Some value
-where_free true o value e = absurd (none_is None value refl e)
+where_free true o value e = absurd (none-some value e)
 where_free false o value e = e
 
 module _ (P : List ℕ → Type 0) (IsSo : Pair → Type 0) (texts : (pair : Pair) → IsSo pair → P pair.0 × P pair.1) (key value : List ℕ) where
   at_last : (later : Option (List ℕ)) (pair : Pair) (test : Bool) → bytes_eq pair.0 key ≡ test → IsSo pair → (later ≡ Some value → P key × P value) →
       option_or later (cond test (Some pair.1) None) ≡ Some value → P key × P value
   at_last (Some found) pair test is so behind e = behind e
-  at_last None pair true is so behind e = (subst P ((bytes_eq-Decides pair.0 key).0 is) (texts pair so).0, subst P (some_is pair.1 value e) (texts pair so).1)
-  at_last None pair false is so behind e = absurd (none_is None value refl e)
+  at_last None pair true is so behind e = (subst P ((bytes_eq-Decides pair.0 key).0 is) (texts pair so).0, subst P (same_Some pair.1 value e) (texts pair so).1)
+  at_last None pair false is so behind e = absurd (none-some value e)
 
   last_is_so : (pairs : List Pair) → EachOf IsSo pairs → last_value key pairs ≡ Some value → P key × P value
-  last_is_so [] each e = absurd (none_is None value refl e)
+  last_is_so [] each e = absurd (none-some value e)
   last_is_so (pair ∷ pairs) each e = at_last (last_value key pairs) pair (bytes_eq pair.0 key) refl each.0 (last_is_so pairs each.1) e
 
 -- ---- statements
@@ -108,11 +104,6 @@ module _ (P : List ℕ → Type 0) (IsSo : Pair → Type 0) (texts : (pair : Pai
 each_known : (nodes : List DocNode) → EachOf (λ node. Unit {0}) nodes
 each_known [] = tt
 each_known (node ∷ nodes) = (tt, each_known nodes)
-
-each_pairs : (IsSo : Pair → Type 0) (NodeIsSo : DocNode → Type 0) → ((node : DocNode) → NodeIsSo node → EachOf IsSo node.pairs) → (nodes : List DocNode) → EachOf NodeIsSo nodes →
-    EachOf (λ node. EachOf IsSo node.pairs) nodes
-each_pairs IsSo NodeIsSo pairs [] each = tt
-each_pairs IsSo NodeIsSo pairs (node ∷ nodes) each = (pairs node each.0, each_pairs IsSo NodeIsSo pairs nodes each.1)
 
 -- the test of the place lets the node through
 at_most : (few : Bool) (found body : Body) → cond few (Ok found) (Err TooMany) ≡ Ok body → ◌≡◌ {A = NodeReading} (Ok found) (Ok body)
@@ -138,16 +129,12 @@ unless_is h g (Some fault) e = refused fault g e
 
 -- ---- the kind of a node
 
-map_each : (ports : List Port) → AllByRecursion (λ port. IsShape port.shape) ports → AllByRecursion IsShape (map (λ port. port.shape) ports)
-map_each [] each = tt
-map_each (port ∷ ports) each = (each.0, map_each ports each.1)
-
 module _ (says_ports : ReadsPorts) (rows : RowsAreMet) where
   shapes_read : (side : Side) (text : List ℕ) (read : Result (List Port) PortFault) (shapes : List Shape) → reading side text ≡ read → shapes_in read ≡ Ok shapes → AreRead shapes
   shapes_read side text (Err fault) shapes is e = refused _ shapes e
   shapes_read side text (Ok ports) shapes is e =
       let are : ArePorts ports = ((says_ports side text ports).0 is).1 in
-      let each = map_each ports (recursion_from_All (λ port. IsShape port.shape) ports are.shapes) in
+      let each = each_mapped (λ port. IsShape port.shape) IsShape (λ port. port.shape) (λ port right. right) ports (recursion_from_All (λ port. IsShape port.shape) ports are.shapes) in
       subst AreRead (same_answer (map (λ port. port.shape) ports) shapes e)
       (record { few = omega (arith, are.few, length-map ports (λ port. port.shape)); each = All-from_recursion IsShape (map (λ port. port.shape) ports) each })
 
@@ -213,17 +200,13 @@ module _ (says_ports : ReadsPorts) (rows : RowsAreMet) where
     more_fit place name (Err fault) more nodes p q e = refused (refusal fault place name) nodes e
     more_fit place name (Ok body) more nodes p q e = q body (p body refl) e
 
-    one_more_fits : (nodes : List (Name × Body)) (node : Name × Body) → NodesFit nodes → BodyFits node.1 → NodesFit (nodes ++ node ∷ [])
-    one_more_fits [] node fit also = (also, tt)
-    one_more_fits (first ∷ nodes) node fit also = (fit.0, one_more_fits nodes node fit.1 also)
-
     nodes_fit : (before : List (Name × Body)) (place : ℕ) (statements : List DocNode) → EachOf (λ node. Known node.pairs) statements → NodesFit before → (nodes : List (Name × Body)) →
         nodes_reading before place statements ≡ Ok nodes → NodesFit nodes
     nodes_fit before place [] known fit nodes e = subst NodesFit (same_answer before nodes e) fit
     nodes_fit before place (node ∷ statements) known fit nodes e =
         more_fit place node.name (node_reading (names_of before) place node) (λ body. nodes_reading (before ++ (node.name, body) ∷ []) (place + 1) statements) nodes
         (node_fits (names_of before) place node known.0)
-        (λ body also. nodes_fit (before ++ (node.name, body) ∷ []) (place + 1) statements known.1 (one_more_fits before (node.name, body) fit also) nodes) e
+        (λ body also. nodes_fit (before ++ (node.name, body) ∷ []) (place + 1) statements known.1 (each_append (λ entry. BodyFits entry.1) before ((node.name, body) ∷ []) fit (also, tt)) nodes) e
 
     -- ---- the whole
 
@@ -259,7 +242,7 @@ module _ (says_ports : ReadsPorts) (rows : RowsAreMet) where
         λ name body there. (fits name body there).0,
         λ name body key value there kept owned.
             let read = (fits name body there).1 in
-            none_is (map_of.get body.kept key) value (kept_is body read.0 read.2 key ∙ ap (λ (b : Bool). cond b None (last_value key read.0)) owned) kept,
+            none-some value (sym (kept_is body read.0 read.2 key ∙ ap (λ (b : Bool). cond b None (last_value key read.0)) owned) ∙ kept),
       )
 
   -- ---- texts
@@ -272,6 +255,6 @@ module _ (says_ports : ReadsPorts) (rows : RowsAreMet) where
 
   pub read_texts : ReadTexts
   read_texts doc g e = (
-    λ prints. kept_texts CanBeQuoted PairPrints (λ pair h. (h.key, h.value)) doc g (each_pairs PairPrints NodePrints (λ node h. h.pairs) doc.nodes prints.nodes) e,
-    λ texts. kept_texts IsUtf8 (PairTexts IsUtf8) (λ pair h. h) doc g (each_pairs (PairTexts IsUtf8) (NodeTexts IsUtf8) (λ node h. h.1) doc.nodes texts.0) e,
+    λ prints. kept_texts CanBeQuoted PairPrints (λ pair h. (h.key, h.value)) doc g (each_changed NodePrints (λ node. EachOf PairPrints node.pairs) (λ node h. h.pairs) doc.nodes prints.nodes) e,
+    λ texts. kept_texts IsUtf8 (PairTexts IsUtf8) (λ pair h. h) doc g (each_changed (NodeTexts IsUtf8) (λ node. EachOf (PairTexts IsUtf8) node.pairs) (λ node h. h.1) doc.nodes texts.0) e,
   )

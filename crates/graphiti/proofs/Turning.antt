@@ -44,7 +44,7 @@ module _ {X : Type 0} where
   pub keys_rise : (m : fin.FinMap name_cmp X) → Rise (fin.keys m)
   keys_rise m = sorted_rise (fin.entries m) (fin.entries_sorted m)
 
-  pub key_among : (m : fin.FinMap name_cmp X) (name : Name) (x : X) → fin.get m name ≡ Some x → IsAmong name (fin.keys m)
+  key_among : (m : fin.FinMap name_cmp X) (name : Name) (x : X) → fin.get m name ≡ Some x → IsAmong name (fin.keys m)
   key_among m name x found = found_among name (fin.entries m) x (sym (fin.get-entries m name) ∙ found)
 
 -- each Buffer had its turn and is wired to itself, or has its turn yet
@@ -92,7 +92,7 @@ module _ (g : NamedGraph) (typed : IsTyped g) (all : (name : Name) → IsBuffer 
   feeds_wired p q (inr ring) = ap (fin.get g.feeders) ring.1 ∙ all p.node ring.0.buffer ∙ ap Some (sym ring.1 ∙ sym ring.2)
 
   -- where each Buffer is wired to itself, the graph is stripped
-  pub stripped_itself : IsStripped g g
+  stripped_itself : IsStripped g g
   stripped_itself =
       record {
         nodes = λ name body. (λ found. (found, elim (buffer_cases g name) [ inl is ↦ inr (itself_last name is) | inr plain ↦ inl plain ]), λ has. has.0);

@@ -79,7 +79,7 @@ module _ (g h : GraphValue) (id : NodeId) (others : (other : NodeId) → other �
         leads = λ k turns. leads k (by_names h, turn, turns);
       }
 
-  pub underway_next : (start : NamedGraph) (ids : List NodeId) → Underway start g (id ∷ ids) → IfSome (node_at g id) (λ node. Turn (by_names g) node.name (by_names h)) → Underway start h ids
+  underway_next : (start : NamedGraph) (ids : List NodeId) → Underway start g (id ∷ ids) → IfSome (node_at g id) (λ node. Turn (by_names g) node.name (by_names h)) → Underway start h ids
   underway_next start ids u = underway_past start ids u.names u.typed u.are_named u.rise u.leads
 
 -- In the loop over the ids

@@ -1,5 +1,5 @@
 -- All texts of a canonical document can be written.
-use Rattle.std.proofs.Common.{◌≡◌, ℕ, zero, suc, ◌<◌, ◌≤◌, ◌^◌, true, List, [], ◌∷◌, ◌++◌, length, map, Some, codes, refl, ◌∙◌, arith}
+use Rattle.std.proofs.Common.{◌≡◌, ℕ, zero, suc, ◌<◌, ◌≤◌, ◌^◌, true, List, [], ◌∷◌, ◌++◌, length, Some, codes, refl, ◌∙◌, arith}
 use Rattle.std.specs.List.{AllByRecursion}
 use Rattle.std.specs.Str.{IsUtf8}
 use Rattle.std.specs.FinMap as map_of
@@ -25,28 +25,11 @@ use Rattle.graph_print.specs.CanonicalText.{PrintedPort, kind_word, hexadecimal,
 use Rattle.graphiti.specs.CanonicalReading.{ValueFits, CanBeReadBack}
 use Rattle.graphiti.specs.CanonicalTexts.{KeptTexts, CanonicalPrints}
 use Rattle.graphiti.proofs.Lookups.{name_total, name_same, port_total, port_same}
+use Rattle.graphiti.proofs.Each.{each_append, each_mapped, each_changed}
 use Rattle.graphiti.proofs.MapEntries.{each_entry}
 use Rattle.graphiti.proofs.PortsBack.{are_ports}
 use Rattle.graphiti.proofs.PortNames.{last_port}
 use Rattle.graphiti.proofs.WrittenTexts.{IsWritten, written, side_simple, name_simple, ports_simple, word_simple, op_simple, hexadecimal_simple, decimal_written}
-
--- ---- lists of which each item is so
-
-each_append : {A : Type 0} (P : A → Type 0) (xs ys : List A) → EachOf P xs → EachOf P ys → EachOf P (xs ++ ys)
-each_append P [] ys h k = k
-each_append P (x ∷ xs) ys h k = (h.0, each_append P xs ys h.1 k)
-
-each-from_recursion : {A : Type 0} (P : A → Type 0) (xs : List A) → AllByRecursion P xs → EachOf P xs
-each-from_recursion P [] h = tt
-each-from_recursion P (x ∷ xs) h = (h.0, each-from_recursion P xs h.1)
-
-each_mapped : {A B : Type 0} (P : A → Type 0) (Q : B → Type 0) (f : A → B) → ((x : A) → P x → Q (f x)) → (xs : List A) → AllByRecursion P xs → EachOf Q (map f xs)
-each_mapped P Q f to [] h = tt
-each_mapped P Q f to (x ∷ xs) h = (to x h.0, each_mapped P Q f to xs h.1)
-
-each_changed : {A : Type 0} (P Q : A → Type 0) → ((x : A) → P x → Q x) → (xs : List A) → EachOf P xs → EachOf Q xs
-each_changed P Q to [] h = tt
-each_changed P Q to (x ∷ xs) h = (to x h.0, each_changed P Q to xs h.1)
 
 -- ---- the texts of a node
 
@@ -136,12 +119,11 @@ module _ (right : PortsAreShapes) (g : NamedGraph) (within : CanBeReadBack g) (q
 
   kept_at : (name : Name) (body : Body) → map_of.get g.nodes name ≡ Some body → EachOf PairIsWritten (map_of.entries body.kept)
   kept_at name body is =
-      each-from_recursion PairIsWritten (map_of.entries body.kept)
-      (each_entry name_total name_same PairIsWritten (map_of.entries body.kept) (map_of.entries_sorted body.kept) (λ key value found.
+      each_entry name_total name_same PairIsWritten (map_of.entries body.kept) (map_of.entries_sorted body.kept) (λ key value found.
       let kept = map_of.get-entries body.kept key ∙ found in
       let quotes = quoted name body key value is kept in
       let texts = utf8 name body key value is kept in
-      (record { quoted = quotes.0; utf8 = texts.0 }, record { quoted = quotes.1; utf8 = texts.1 })))
+      (record { quoted = quotes.0; utf8 = texts.0 }, record { quoted = quotes.1; utf8 = texts.1 }))
 
   node_texts : (name : Name) (body : Body) → map_of.get g.nodes name ≡ Some body → NodeTexts IsWritten (node_entry (name, body))
   node_texts name body is = (name_at name body is, pairs_written right body (within.typed.kinds name body is) (within.values name body is) (kept_at name body is))

@@ -8,9 +8,8 @@ use Rattle.dot_text.specs.Texts.{DocTexts}
 use Rattle.graph_core.specs.Name.{Name}
 use Rattle.graph_core.specs.Node.{Body}
 use Rattle.graph_core.specs.NamedGraph.{NamedGraph}
-use Rattle.graph_print.specs.CanonicalText.{canonical_document, text_of}
+use Rattle.graph_print.specs.CanonicalText.{canonical_document}
 use Rattle.graph_read.specs.GraphReading.{graph_reading}
-use Rattle.graphiti.specs.Input.{HoldsDocument}
 use Rattle.graphiti.specs.CanonicalReading.{CanBeReadBack}
 
 -- each key and value that a node keeps is so
@@ -20,11 +19,6 @@ KeptTexts P g = (name : Name) (body : Body) (key value : List ℕ) → map.get g
 -- where what is kept can be quoted and is UTF-8, all texts of the canonical document can be quoted and are UTF-8
 abbrev pub CanonicalPrints : Type 0
 CanonicalPrints = (g : NamedGraph) → CanBeReadBack g → KeptTexts CanBeQuoted g → KeptTexts IsUtf8 g → DocPrints (canonical_document g) × DocTexts IsUtf8 (canonical_document g)
-
--- in the canonical text one document stands, with nothing behind it but blanks, and it is read as the graph
-abbrev pub CanonicalTextReadsBack : Type 0
-CanonicalTextReadsBack = (g : NamedGraph) → CanBeReadBack g → KeptTexts CanBeQuoted g → KeptTexts IsUtf8 g →
-    (document : Doc) × HoldsDocument (text_of g) document × (graph_reading document ≡ Ok g)
 
 -- what a graph that is read keeps can be quoted where the texts of its document can, and is UTF-8 where they are
 abbrev pub ReadTexts : Type 0

@@ -1,6 +1,6 @@
-//! Laws of the definitions that the contract of `run` speaks of.
+//! Laws of the definitions that the contract of `run` speaks of: what is printed is read back, and a stripped graph does what its graph does.
 ghost use Rattle.graphiti.specs.CanonicalReading.{CanonicalReadsBack, ReadFits};
-ghost use Rattle.graphiti.specs.CanonicalTexts.{CanonicalPrints, CanonicalTextReadsBack, ReadTexts};
+ghost use Rattle.graphiti.specs.CanonicalTexts.{CanonicalPrints, ReadTexts};
 ghost use Rattle.graphiti.specs.ReadBack.{TextReadsBack, ReadCanBeRead, StrippedCanBeRead, PrintReadsBack, InputIsOneGraph, PrintOfPrint};
 ghost use Rattle.graphiti.specs.Stripped.{HasStripped, IsOneStripped};
 ghost use Rattle.graphiti.specs.Strips.{TurnsEnd, TurnsStrip};
@@ -10,33 +10,61 @@ use dot_text::{
     one_document, printed_document_is_utf8, printed_document_stands, standing_document_prints,
 };
 use graph_core::ports_are_shapes;
-use graph_read::{numbers_read_back, rows_are_met, rows_read_back};
+use graph_read::{numbers_read_back, read_graphs_are_typed, rows_are_met, rows_read_back};
 use module_sem::{
     buffer_keeps_drains, graph_buffer_shows_nothing, graph_typed_as_circuit, refines_in_steps,
     refines_itself,
 };
 use port_types::{reads_back, reads_ports};
 
-/// The canonical text of a graph within the limits of reading is an input of that graph.
+// Reading back
+
+/// The canonical document of a graph within the limits of reading is read as that graph.
+pub fn canonical_document_reads_back()
+    ensures { CanonicalReadsBack }
+{
+    ports_are_shapes();
+    reads_ports();
+    reads_back();
+    rows_read_back();
+    numbers_read_back();
+}
+
+/// The canonical document of a graph within the limits of reading can be printed, where the texts that the graph keeps can be quoted
+/// and are UTF-8.
+pub fn canonical_document_prints()
+    ensures { CanonicalPrints }
+{
+    ports_are_shapes();
+}
+
+/// The canonical text of such a graph is an input of that graph.
 pub fn text_reads_back()
     ensures { TextReadsBack }
 {
-    printed_document_is_utf8();
     printed_document_stands();
+    printed_document_is_utf8();
+    canonical_document_reads_back();
+    canonical_document_prints();
 }
 
-/// A graph that was read is within these limits: its kept texts can be quoted.
+/// In a graph that is read the values of Constants fit 64 bits and no kept attribute is one that its kind owns. What it keeps can be
+/// quoted where the texts of the document can, and is UTF-8 where they are.
+pub fn read_graph_fits()
+    ensures fits { ReadFits }
+    ensures texts { ReadTexts }
+{
+    reads_ports();
+    rows_are_met();
+}
+
+/// A graph that was read is within the limits of reading, and the texts that it keeps can be quoted and are UTF-8.
 pub fn read_texts_can_be_quoted()
     ensures { ReadCanBeRead }
 {
     standing_document_prints();
-}
-
-/// The stripped graph of a graph within these limits is within them.
-pub fn stripped_can_be_read()
-    ensures { StrippedCanBeRead }
-{
-    stripped_refines();
+    read_graphs_are_typed();
+    read_graph_fits();
 }
 
 /// What is printed of a graph that was read is an input of that graph and of no other, so printing it again gives the same text.
@@ -49,6 +77,8 @@ pub fn print_of_print()
     text_reads_back();
     read_texts_can_be_quoted();
 }
+
+// Stripped graphs
 
 /// A typed graph has one stripped graph.
 pub fn one_stripped_graph()
@@ -81,40 +111,9 @@ pub fn stripped_drains()
     buffer_keeps_drains();
 }
 
-/// The canonical document of a graph within the limits of reading is read as that graph.
-pub fn canonical_document_reads_back()
-    ensures { CanonicalReadsBack }
+/// The stripped graph of a graph that is within the limits of reading, and whose kept texts can be quoted and are UTF-8, is so too.
+pub fn stripped_can_be_read()
+    ensures { StrippedCanBeRead }
 {
-    ports_are_shapes();
-    reads_ports();
-    reads_back();
-    rows_read_back();
-    numbers_read_back();
-}
-
-/// In a graph that is read the values of Constants fit 64 bits, no kept attribute is one that its kind owns, and each can be
-/// written where the texts of the document can.
-pub fn read_graph_fits()
-    ensures fits { ReadFits }
-    ensures texts { ReadTexts }
-{
-    reads_ports();
-    rows_are_met();
-}
-
-/// The canonical document of a graph within the limits of reading can be printed, where the texts that it keeps can be quoted.
-pub fn canonical_document_prints()
-    ensures { CanonicalPrints }
-{
-    ports_are_shapes();
-}
-
-/// In the canonical text of such a graph a document stands that is read as the graph.
-pub fn canonical_text_reads_back()
-    ensures { CanonicalTextReadsBack }
-{
-    printed_document_stands();
-    printed_document_is_utf8();
-    canonical_document_reads_back();
-    canonical_document_prints();
+    stripped_refines();
 }

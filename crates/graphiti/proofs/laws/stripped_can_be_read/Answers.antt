@@ -1,4 +1,4 @@
-use Rattle.graphiti.proofs.StrippedTexts.{stripped_can_be_read}
+use Rattle.graphiti.proofs.StrippedBack.{stripped_can_be_read}
 use Rattle.graphiti.proofs.laws.stripped_can_be_read.Goals as goal
 
 pub returns : goal.returns

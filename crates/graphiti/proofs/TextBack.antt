@@ -1,4 +1,4 @@
--- In the canonical text of a graph its canonical document stands.
+-- The canonical text of a graph is an input of the graph.
 use Rattle.std.proofs.Common.{ℕ, List, [], ◌++◌, length, codes, refl, length-append}
 use Rattle.std.proofs.Math.Seq.{drop-append_seam}
 use Rattle.dot_text.specs.Laws.{PrintedStands, PrintedIsUtf8}
@@ -7,7 +7,8 @@ use Rattle.dot_text.specs.Blanks.{Blanks.none as no_blank, Blanks.skip, FirstByt
 use Rattle.dot_text.specs.Printing.{printed}
 use Rattle.graph_print.specs.CanonicalText.{canonical_document}
 use Rattle.graphiti.specs.CanonicalReading.{CanonicalReadsBack}
-use Rattle.graphiti.specs.CanonicalTexts.{CanonicalPrints, CanonicalTextReadsBack}
+use Rattle.graphiti.specs.CanonicalTexts.{CanonicalPrints}
+use Rattle.graphiti.specs.ReadBack.{TextReadsBack}
 
 -- the last LF is a blank, and nothing stands behind it
 line_end : (lines : List ℕ) → SkipsTo (lines ++ codes "\n") (length lines) (length (lines ++ codes "\n"))
@@ -16,11 +17,12 @@ line_end lines = record {
   first = ended refl;
 }
 
-pub text_reads_back : PrintedStands → PrintedIsUtf8 → CanonicalReadsBack → CanonicalPrints → CanonicalTextReadsBack
-text_reads_back stands utf8 reads prints g within quoted texts =
+pub text_reads_back : PrintedStands → PrintedIsUtf8 → CanonicalReadsBack → CanonicalPrints → TextReadsBack
+text_reads_back stands utf8 reads prints g can =
     let document = canonical_document g in
-    let both = prints g within quoted texts in (
-      document,
-      record { end = length (printed document); stands = stands document (codes "\n") both.0 (utf8 document both.1); behind = line_end (printed document) },
-      reads g within,
-    )
+    let both = prints g can.within can.quoted can.utf8 in
+    record {
+      document = document;
+      holds = record { end = length (printed document); stands = stands document (codes "\n") both.0 (utf8 document both.1); behind = line_end (printed document) };
+      reads = reads g can.within;
+    }

@@ -1,6 +1,0 @@
-use Rattle.graphiti.proofs.CanonicalTextBack.{text_reads_back}
-use Rattle.graphiti.proofs.laws.canonical_text_reads_back.Goals as goal
-
-pub returns : goal.returns
-returns c =
-    text_reads_back c.printed_document_stands.ensures c.printed_document_is_utf8.ensures c.canonical_document_reads_back.ensures c.canonical_document_prints.ensures
