@@ -26,5 +26,5 @@ mod shapes;
 
 pub use fault::{GraphFault, GraphFaultKind, GraphRefusal};
 pub use graph::graph_of;
-pub use pure::has_pure;
 pub use laws::{numbers_read_back, read_graphs_are_typed, rows_are_met, rows_read_back};
+pub use pure::has_pure;
