@@ -21,6 +21,8 @@ mod nodes;
 mod open;
 mod plain_rows;
 mod pure;
+#[cfg(test)]
+mod pure_tests;
 mod rows;
 mod shapes;
 
