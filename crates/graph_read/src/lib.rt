@@ -5,6 +5,8 @@
 #![tactic(auto)]
 
 mod attribute_rows;
+#[cfg(test)]
+mod attribute_tests;
 mod attributes;
 mod component;
 mod edges;
