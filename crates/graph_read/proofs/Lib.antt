@@ -12,3 +12,4 @@ mod Joining
 mod OpenPorts
 mod NodeLists
 mod NodeSteps
+mod NoPure

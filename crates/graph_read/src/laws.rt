@@ -1,7 +1,8 @@
 ghost use Rattle.graph_read.specs.Laws.{RowsAreMet, RowsReadBack, DecimalValues, HexadecimalValues, DecimalTags};
-ghost use Rattle.graph_read.specs.GraphLaws.{ReadIsTyped, ReadHasNoPure};
+ghost use Rattle.graph_read.specs.GraphLaws.{ReadIsTyped, ReadIsNamed, ReadHasNoPure};
 
 use op_table::tests_are_the_table;
+use port_types::reads_ports;
 
 /// A kind is read from ports and attributes exactly where it meets its row of the table of ports with them.
 pub fn rows_are_met()
@@ -24,10 +25,13 @@ pub fn numbers_read_back()
     ensures tags { DecimalTags }
 {}
 
-/// A graph that is read is typed and within the limits, and no node of its document applies a function.
+/// A graph that is read is typed and within the limits, its names are allowed where the document's texts are UTF-8, and no node of
+/// its document applies a function.
 pub fn read_graphs_are_typed()
     ensures typed { ReadIsTyped }
+    ensures named { ReadIsNamed }
     ensures no_pure { ReadHasNoPure }
 {
+    reads_ports();
     rows_are_met();
 }

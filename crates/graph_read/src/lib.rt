@@ -5,6 +5,8 @@
 #![tactic(auto)]
 
 mod attribute_rows;
+#[cfg(test)]
+mod attribute_tests;
 mod attributes;
 mod component;
 mod edges;
@@ -21,10 +23,12 @@ mod nodes;
 mod open;
 mod plain_rows;
 mod pure;
+#[cfg(test)]
+mod pure_tests;
 mod rows;
 mod shapes;
 
 pub use fault::{GraphFault, GraphFaultKind, GraphRefusal};
 pub use graph::graph_of;
-pub use pure::has_pure;
 pub use laws::{numbers_read_back, read_graphs_are_typed, rows_are_met, rows_read_back};
+pub use pure::has_pure;
