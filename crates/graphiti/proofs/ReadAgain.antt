@@ -3,23 +3,24 @@ use Rattle.std.proofs.Common.{sym, ap, ◌∙◌}
 use Rattle.dot_text.specs.Laws.{OneDocument, StandingPrints, StandingIsUtf8}
 use Rattle.graph_print.specs.CanonicalText.{text_of}
 use Rattle.graph_read.specs.GraphReading.{graph_reading}
-use Rattle.graph_read.specs.GraphLaws.{ReadIsTyped}
+use Rattle.graph_read.specs.GraphLaws.{ReadIsTyped, ReadIsNamed}
 use Rattle.graphiti.specs.CanonicalReading.{ReadFits}
 use Rattle.graphiti.specs.CanonicalTexts.{ReadTexts}
 use Rattle.graphiti.specs.ReadBack.{TextReadsBack, ReadCanBeRead, PrintReadsBack, InputIsOneGraph, PrintOfPrint}
 use Rattle.graphiti.proofs.ReadNodes.{same_answer}
 
-pub read_can_be_read : StandingPrints → StandingIsUtf8 → ReadIsTyped → ReadFits → ReadTexts → ReadCanBeRead
-read_can_be_read prints utf8 typed fits texts g bytes input =
+pub read_can_be_read : StandingPrints → StandingIsUtf8 → ReadIsTyped → ReadIsNamed → ReadFits → ReadTexts → ReadCanBeRead
+read_can_be_read prints utf8 typed named fits texts g bytes input =
     let document = input.document in
     let stands = input.holds.stands in
     let right = typed document g input.reads in
+    let is_utf8 = utf8 bytes 0 document input.holds.end stands in
     let fit = fits document g input.reads in
     let written = texts document g input.reads in
     record {
-      within = record { typed = right.0; names = right.1; few = right.2; values = fit.0; kept = fit.1 };
+      within = record { typed = right.0; names = named document g is_utf8 input.reads; few = right.1; values = fit.0; kept = fit.1 };
       quoted = written.0 (prints bytes 0 document input.holds.end stands);
-      utf8 = written.1 (utf8 bytes 0 document input.holds.end stands);
+      utf8 = written.1 is_utf8;
     }
 
 pub print_reads_back : TextReadsBack → ReadCanBeRead → PrintReadsBack
