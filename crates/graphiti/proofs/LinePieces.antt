@@ -41,6 +41,18 @@ cut_in_second a b old between new first front =
       taken = front.taken ∙ ap (λ taken. after taken (take front.count b)) first ∙ after_both old a (take front.count b) ∙ ap (after old) (sym whole.1);
     }
 
+-- a front of the first of three pieces, of the first two, and of all three
+
+pub first_of_three : (a b c : List ℕ) (old new : Option (List ℕ)) → WritesFrontOf a old new → WritesFrontOf (a ++ b ++ c) old new
+first_of_three a b c old new front = cut_in_first (a ++ b) c old new (cut_in_first a b old new front)
+
+pub second_of_three : (a b c : List ℕ) (old first new : Option (List ℕ)) → first ≡ after old a → WritesFrontOf b first new → WritesFrontOf (a ++ b ++ c) old new
+second_of_three a b c old first new taken front = cut_in_first (a ++ b) c old new (cut_in_second a b old first new taken front)
+
+pub third_of_three : (a b c : List ℕ) (old first second new : Option (List ℕ)) → first ≡ after old a → second ≡ after first b → WritesFrontOf c second new → WritesFrontOf (a ++ b ++ c) old new
+third_of_three a b c old first second new taken then front =
+    cut_in_second (a ++ b) c old second new (then ∙ ap (λ taken. after taken b) taken ∙ after_both old a b) front
+
 -- one more digit in front of those that stand there
 pub digit_before : (n rest first : ℕ) (ds : List ℕ) → decimal n ≡ decimal rest ++ drop (first + 1) ds → first < length ds → 10 ≤ rest → rest < 2 ^ 64 → decimal n ≡ decimal (rest / 10) ++ drop first (set ds first (48 + rest % 10))
 digit_before n rest first ds so_far within more small =

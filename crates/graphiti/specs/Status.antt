@@ -5,7 +5,6 @@ use Rattle.port_types.specs.declared.side.Side.{Side}
 use Rattle.port_types.specs.PortText.{port_name}
 use Rattle.graph_read.specs.declared.fault.GraphFaultKind.{GraphFaultKind}
 use Rattle.graph_read.specs.declared.fault.GraphFaultKind.TheVariants.{BadName, NameTaken, NoKind, UnknownKind, MemoryNode, MemoryPort, BadPorts, BadOp, BadValue, BadFun, BadTags, TooMany, UnknownNode, UnknownPort, PortTaken, ShapeDiffers, PortOpen}
-use Rattle.graph_read.specs.declared.fault.GraphRefusal.{GraphRefusal}
 use Rattle.graphiti.specs.declared.status.Status.{Status}
 use Rattle.graphiti.specs.declared.status.Status.TheVariants.{Done, Usage, Syntax, TooLong, Graph, ReadFault, WriteFault, NoMemory, NotYet}
 

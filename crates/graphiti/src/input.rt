@@ -57,7 +57,8 @@ fn graph_in(alloc: Global, bytes: &[u8]) -> Result<Graph, Status>
     let g = graph_of_document(alloc, &document)?;
     match skip_blank(bytes, end) {
         Ok(place) if place == bytes.len() => Ok(g),
-        Ok(place) | Err(place) => Err(Status::Syntax(place)),
+        Ok(place) => Err(Status::Syntax(place)),
+        Err(place) => Err(Status::Syntax(place)),
     }
 }
 

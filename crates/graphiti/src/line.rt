@@ -5,16 +5,18 @@ ghost use Rattle.gx_base.specs.Stream.{after, Rose};
 ghost use Rattle.graphiti.specs.Status.{line_of};
 ghost use Rattle.graphiti.specs.Answer.{WritesFrontOf};
 
+use crate::refusal::write_refusal;
 use crate::status::Status;
+use graph_read::GraphRefusal;
 use gx_base::{Failed, Sink, write_all};
 
 /// The most digits of a number.
 const MAX_DIGITS: usize = 20;
 
 /// Writes the line of the status, with its LF; nothing for `Done`. After a write that fails nothing more is written.
-pub(crate) fn write_line<E: Sink>(err: &mut E, status: Status)
-    ensures front { WritesFrontOf (line_of status) (E.taken err.old) (E.taken err.new) }
-    ensures whole { ¬ (Rose (E.faults err.old) (E.faults err.new)) → E.taken err.new ≡ after (E.taken err.old) (line_of status) }
+pub(crate) fn write_line<E: Sink>(err: &mut E, status: &Status)
+    ensures front { WritesFrontOf (line_of status.now) (E.taken err.old) (E.taken err.new) }
+    ensures whole { ¬ (Rose (E.faults err.old) (E.faults err.new)) → E.taken err.new ≡ after (E.taken err.old) (line_of status.now) }
     ensures never_falls { E.faults err.old ≤ E.faults err.new }
 {
     match status {
@@ -23,8 +25,11 @@ pub(crate) fn write_line<E: Sink>(err: &mut E, status: Status)
             err,
             "graphiti: usage: print, strip, gather, unfold, rewrite, trace, loops, sim [LIMIT], check, gen N\n",
         ),
-        Status::Syntax(at) => write_syntax(err, at),
+        Status::Syntax(at) => write_syntax(err, *at),
         Status::TooLong => write_text(err, "graphiti: input longer than 16777216 bytes\n"),
+        Status::Graph(refusal) => {
+            let _ = write_refusal_line(err, refusal);
+        }
         Status::ReadFault => write_text(err, "graphiti: read failed\n"),
         Status::WriteFault => write_text(err, "graphiti: write failed\n"),
         Status::NoMemory => write_text(err, "graphiti: no memory\n"),
@@ -48,8 +53,19 @@ fn write_syntax<E: Sink>(err: &mut E, at: usize)
     let _ = write_around(err, b"graphiti: syntax at byte ", at, b"\n");
 }
 
+fn write_refusal_line<E: Sink>(err: &mut E, refusal: &GraphRefusal) -> Result<(), Failed>
+    ensures front { WritesFrontOf (line_of (Status.Graph refusal.now)) (E.taken err.old) (E.taken err.new) }
+    ensures whole { OnOk result (E.taken err.new ≡ after (E.taken err.old) (line_of (Status.Graph refusal.now))) }
+    ensures fault { OnErr result (Rose (E.faults err.old) (E.faults err.new)) }
+    ensures never_falls { E.faults err.old ≤ E.faults err.new }
+{
+    write_piece(err, b"graphiti: ")?;
+    write_refusal(err, refusal)?;
+    write_piece(err, b"\n")
+}
+
 /// Writes a number between two pieces.
-fn write_around<E: Sink>(
+pub(crate) fn write_around<E: Sink>(
     err: &mut E,
     before: &[u8],
     number: usize,
@@ -65,7 +81,7 @@ fn write_around<E: Sink>(
     write_piece(err, behind)
 }
 
-fn write_number<E: Sink>(err: &mut E, number: usize) -> Result<(), Failed>
+pub(crate) fn write_number<E: Sink>(err: &mut E, number: usize) -> Result<(), Failed>
     ensures front { WritesFrontOf (decimal number) (E.taken err.old) (E.taken err.new) }
     ensures whole { OnOk result (E.taken err.new ≡ after (E.taken err.old) (decimal number)) }
     ensures fault { OnErr result (Rose (E.faults err.old) (E.faults err.new)) }
@@ -92,7 +108,7 @@ fn put_digits(digits: &mut [u8; MAX_DIGITS], number: usize) -> usize
     first
 }
 
-fn write_piece<E: Sink>(err: &mut E, piece: &[u8]) -> Result<(), Failed>
+pub(crate) fn write_piece<E: Sink>(err: &mut E, piece: &[u8]) -> Result<(), Failed>
     ensures front { WritesFrontOf piece.now (E.taken err.old) (E.taken err.new) }
     ensures whole { OnOk result (E.taken err.new ≡ after (E.taken err.old) piece.now) }
     ensures fault { OnErr result (Rose (E.faults err.old) (E.faults err.new)) }

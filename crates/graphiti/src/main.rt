@@ -5,6 +5,7 @@
 mod input;
 mod laws;
 mod line;
+mod refusal;
 mod run;
 mod status;
 mod strip;
