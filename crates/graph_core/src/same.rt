@@ -149,32 +149,29 @@ fn same_kind(a: &Kind, b: &Kind) -> bool
     ensures { IsTrue result ↔ (a.now ≡ b.now) }
 {
     match (a, b) {
-        (Kind::Entry(shape), Kind::Entry(other)) => same_shape(shape, other),
-        (Kind::Exit(shape), Kind::Exit(other)) => same_shape(shape, other),
-        (Kind::Buffer(shape), Kind::Buffer(other)) => same_shape(shape, other),
-        (Kind::Fork(shape, count), Kind::Fork(other, other_count)) => {
+        (Kind::Entry(shape), Kind::Entry(other))
+        | (Kind::Exit(shape), Kind::Exit(other))
+        | (Kind::Buffer(shape), Kind::Buffer(other))
+        | (Kind::Source0(shape), Kind::Source0(other))
+        | (Kind::Sink0(shape), Kind::Sink0(other))
+        | (Kind::Mux(shape), Kind::Mux(other))
+        | (Kind::Branch(shape), Kind::Branch(other)) => same_shape(shape, other),
+        (Kind::Fork(shape, count), Kind::Fork(other, other_count))
+        | (Kind::Merge(shape, count), Kind::Merge(other, other_count)) => {
             same_shape(shape, other) && count == other_count
         }
-        (Kind::Join(shapes), Kind::Join(others)) => {
+        (Kind::Join(shapes), Kind::Join(others)) | (Kind::Split(shapes), Kind::Split(others)) => {
             same_shapes(shapes.as_slice(), others.as_slice())
         }
-        (Kind::Split(shapes), Kind::Split(others)) => {
-            same_shapes(shapes.as_slice(), others.as_slice())
+        (Kind::Operator(op, widths, width), Kind::Operator(other, others, other_width)) => {
+            op == other && widths.as_slice() == others.as_slice() && width == other_width
         }
-        (Kind::Operator(op, widths, width), Kind::Operator(other_op, others, other_width)) => {
-            op == other_op && widths.as_slice() == others.as_slice() && width == other_width
+        (Kind::Constant(shape, width, value), Kind::Constant(other, other_width, other_value)) => {
+            same_shape(shape, other) && width == other_width && value == other_value
         }
-        (Kind::Constant(shape, width, value), Kind::Constant(other, other_width, other_value)) =>
-            same_shape(shape, other) && width == other_width && value == other_value,
-        (Kind::Source0(shape), Kind::Source0(other)) => same_shape(shape, other),
-        (Kind::Sink0(shape), Kind::Sink0(other)) => same_shape(shape, other),
-        (Kind::Mux(shape), Kind::Mux(other)) => same_shape(shape, other),
-        (Kind::Branch(shape), Kind::Branch(other)) => same_shape(shape, other),
-        (Kind::Merge(shape, count), Kind::Merge(other, other_count)) => {
-            same_shape(shape, other) && count == other_count
+        (Kind::CtrlMerge(shape, count, width), Kind::CtrlMerge(other, others, other_width)) => {
+            same_shape(shape, other) && count == others && width == other_width
         }
-        (Kind::CtrlMerge(shape, count, width), Kind::CtrlMerge(other, other_count, other_width)) =>
-            same_shape(shape, other) && count == other_count && width == other_width,
         (Kind::Init(value, mark), Kind::Init(other, other_mark)) => {
             value == other && mark == other_mark
         }
