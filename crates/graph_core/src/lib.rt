@@ -21,6 +21,8 @@ mod owned;
 mod place;
 mod port_shapes;
 mod same;
+#[cfg(test)]
+mod same_tests;
 mod slots;
 #[cfg(test)]
 mod tests;
