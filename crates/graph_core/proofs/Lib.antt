@@ -3,6 +3,8 @@ mod Each
 mod Maps
 mod NamedNodes
 mod Feeds
+pub mod Alike
+pub mod SameGraphs
 pub mod Orders
 pub mod Known
 pub mod PortLists

@@ -7,5 +7,6 @@ pub mod GraphValue
 pub mod Wiring
 pub mod Inside
 pub mod OpenPorts
+pub mod Within
 pub mod Fields
 pub mod Laws

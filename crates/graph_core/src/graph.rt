@@ -6,7 +6,7 @@ ghost use Rattle.graph_core.specs.Place.{index_of, id_of};
 ghost use Rattle.graph_core.specs.Kind.{KindOk};
 ghost use Rattle.graph_core.specs.Node.{NodeOk, body_of};
 ghost use Rattle.graph_core.specs.NamedGraph.{CanWire, IsTyped, IsWire, is_wired, no_graph, with_node, with_wire, without_node};
-ghost use Rattle.graph_core.specs.GraphValue.{AreInOrder, by_names, node_at, next_id, port_named, shape_at, HasName, with_slot, with_feeder, without_slot};
+ghost use Rattle.graph_core.specs.GraphValue.{AreInOrder, by_names, node_at, next_id, port_named, shape_at, HasName, IsGraph, with_slot, with_feeder, without_slot};
 ghost use Rattle.graph_core.specs.Wiring.{wire_fault, is_taken, IsWireFault, IsFree, IsOpen, IsFirstOpen};
 ghost use Rattle.graph_core.specs.OpenPorts.{IsClosed, IsFirstOpenAt, AreWired, IsFirstFree};
 
@@ -246,6 +246,13 @@ impl Graph {
     {
         ids_by_name(alloc, &self.nodes)
     }
+}
+
+/// What holds of every graph, for calls that go over all of one.
+pub(crate) fn graph_is_right(g: &Graph)
+    ensures { IsGraph g.now }
+{
+    let _ = &g.nodes;
 }
 
 /// Whether each port of each node stands on a wire. If not, the error is the first that stands on none, in the order of ids, inputs before outputs, by number.

@@ -5,6 +5,7 @@
 //! - `Graph`: nodes by index and wires between ports. Contracts see it by its slots, and by names through
 //!   `by_names` in `specs/`: one map from names to nodes, one from input ports to the outputs that feed them.
 //! - `check_typed`: whether each port stands on a wire.
+//! - `same_graph`: whether two graphs are the same by names.
 #![tactic(auto)]
 
 mod copying;
@@ -19,6 +20,9 @@ mod node;
 mod owned;
 mod place;
 mod port_shapes;
+mod same;
+#[cfg(test)]
+mod same_tests;
 mod slots;
 #[cfg(test)]
 mod tests;
@@ -32,3 +36,4 @@ pub use node::Node;
 pub use owned::owns;
 pub use place::{NodeId, PortAt};
 pub use port_shapes::port_shape;
+pub use same::same_graph;
