@@ -4,6 +4,7 @@ mod gcd;
 mod spellings;
 mod streams;
 mod strip;
+mod worked;
 mod words;
 
 use crate::run::run;
