@@ -1,5 +1,5 @@
 -- The reading of a node behind others: its first refusals, in order.
-use Rattle.std.proofs.Common.{◌≡◌, ℕ, ◌≤◌, ◌<◌, Bool, true, false, cond, ◌||◌, List, [], ◌∷◌, Option, Some, is_some, Ok, Err, refl, sym, ap, ◌∙◌, arith, if◌then◌else◌}
+use Rattle.std.proofs.Common.{rules, ◌≡◌, IsSome, ℕ, ◌≤◌, ◌<◌, Bool, true, false, cond, ◌||◌, List, [], ◌∷◌, Option, Some, is_some, Ok, Err, refl, sym, ap, ◌∙◌, arith, if◌then◌else◌}
 use Rattle.std.specs.Prelude.{bytes_eq, nat_le}
 use Rattle.std.specs.List.{list_any}
 use Rattle.std.specs.FinMap as map
@@ -12,7 +12,9 @@ use Rattle.graph_core.specs.Node.{Body}
 use Rattle.graph_read.specs.declared.fault.GraphFaultKind.TheVariants.{NameTaken, TooMany}
 use Rattle.graph_read.specs.declared.fault.NodeFault.{NodeFault}
 use Rattle.graph_read.specs.declared.fault.NodeFault.TheVariants.{Refused, NoMemory}
+use Rattle.graph_core.specs.GraphValue.{GraphValue}
 use Rattle.graph_read.specs.Answers.{IsNodeRead}
+use Rattle.graph_read.specs.GraphSteps.{IsAdded}
 use Rattle.graph_read.specs.NodeReading.{NodeReading, node_reading, body_reading, within_limit, is_name}
 use Rattle.graph_read.specs.GraphReading.{names_of}
 use Rattle.graph_read.proofs.Lookups.{name_total}
@@ -37,9 +39,16 @@ module _ (nodes : List (Name × Body)) (place : ℕ) (statement : DocNode) (name
   pub new_name : map.contains_key (map.from_entries {R = name_cmp} nodes) statement.name ≡ false → node_reading (names_of nodes) place statement ≡ within_limit place (body_reading statement.pairs)
   new_name new = rw named (rw (known_names statement.name nodes ∙ new) refl)
 
-pub refused_within : (name : Name) (place : ℕ) (body : NodeReading) (fault : NodeFault) → IsNodeRead name body (Err fault) → IsNodeRead name (within_limit place body) (Err fault)
-refused_within name place body (Refused kind) read = ap (within_limit place) read
-refused_within name place body NoMemory read = tt
+pub is_key : (nodes : map.FinMap name_cmp Body) (name : Name) → IsSome (map.get nodes name) → map.contains_key nodes name ≡ true
+is_key nodes name taken = search rules
+
+pub is_no_key : (nodes : map.FinMap name_cmp Body) (name : Name) → ¬ (IsSome (map.get nodes name)) → map.contains_key nodes name ≡ false
+is_no_key nodes name free = search rules
+
+-- what a body's reading refuses is refused of its node
+pub refused_reading : (name : Name) (fault : NodeFault) (place : ℕ) (g : GraphValue) {read body : NodeReading} → read ≡ body → IsNodeRead name body (Err fault) → IsAdded read name place g g (Err fault)
+refused_reading name (Refused kind) place g is refused = is ∙ refused
+refused_reading name NoMemory place g is refused = tt
 
 abbrev limit : Body → Bool → NodeReading
 limit body few = if few then Ok body else Err TooMany

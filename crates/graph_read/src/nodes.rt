@@ -3,11 +3,11 @@ ghost use Rattle.std.specs.Prelude.{◌≡◌, ◌≤◌, IfOk, IfErr, None, Ok,
 ghost use Rattle.std.specs.FinMap as map_of;
 ghost use Rattle.graph_core.specs.GraphValue.{by_names, named_nodes};
 ghost use Rattle.graph_core.specs.NamedGraph.{IsNamed};
-ghost use Rattle.graph_core.specs.Node.{NodeOk};
+ghost use Rattle.graph_core.specs.Name.{IsName};
 ghost use Rattle.graph_read.specs.Answers.{IsNodeRead};
 ghost use Rattle.graph_read.specs.Refusals.{IsRefusal};
 ghost use Rattle.graph_read.specs.GraphReading.{names_of, nodes_reading, graph_of_nodes};
-ghost use Rattle.graph_read.specs.NodeReading.{node_reading};
+ghost use Rattle.graph_read.specs.NodeReading.{node_reading, body_reading, within_limit};
 ghost use Rattle.graph_read.specs.GraphSteps.{StandInOrder, IsAdded};
 
 use crate::fault::GraphFaultKind::{BadName, NameTaken, TooMany};
@@ -21,18 +21,12 @@ use std::alloc::Global;
 /// The greatest number of nodes that are read.
 const MAX_NODES: usize = 65_536;
 
-/// The node of the statement at this place, counted from 1, behind those of the graph.
-fn new_node(alloc: Global, g: &Graph, statement: &DocNode, place: usize) -> Result<Node, NodeFault>
-    ensures read { IsNodeRead statement.now.name (node_reading (names_of (named_nodes g.now.slots)) place statement.now) result }
+/// The node of the statement at this place, counted from 1, whatever names are taken.
+fn node_at(alloc: Global, statement: &DocNode, place: usize) -> Result<Node, NodeFault>
+    requires { IsName statement.now.name }
+    ensures read { IsNodeRead statement.now.name (within_limit place (body_reading statement.now.pairs)) result }
     ensures few { IfOk result (λ _. place ≤ 65536) }
-    ensures free { IfOk result (λ node. map_of.get (by_names g.now).nodes node.name ≡ None) }
 {
-    if !is_named(statement) {
-        return Err(Refused(BadName));
-    }
-    if g.find(statement.name.bytes()).is_some() {
-        return Err(Refused(NameTaken));
-    }
     let node = read_node(alloc, statement)?;
     if place > MAX_NODES {
         return Err(Refused(TooMany));
@@ -40,7 +34,7 @@ fn new_node(alloc: Global, g: &Graph, statement: &DocNode, place: usize) -> Resu
     Ok(node)
 }
 
-/// Adds the node of the statement at this place, counted from 1.
+/// Adds the node of the statement at this place, counted from 1. Its name is looked up once: as it is added, or for its refusal.
 fn add_statement(
     alloc: Global,
     g: &mut Graph,
@@ -49,11 +43,17 @@ fn add_statement(
 ) -> Result<(), NodeFault>
     ensures { IsAdded (node_reading (names_of (named_nodes g.old.slots)) place statement.now) statement.now.name place g.old g.new result }
 {
-    let node = new_node(alloc, g, statement, place)?;
-    match g.add_node(node) {
-        Ok(_) => Ok(()),
-        Err(AddNode::NameTaken) => unreachable!(),
-        Err(AddNode::NoMemory) => Err(NodeFault::NoMemory),
+    if !is_named(statement) {
+        return Err(Refused(BadName));
+    }
+    match node_at(alloc, statement, place) {
+        Ok(node) => match g.add_node(node) {
+            Ok(_) => Ok(()),
+            Err(AddNode::NameTaken) => Err(Refused(NameTaken)),
+            Err(AddNode::NoMemory) => Err(NodeFault::NoMemory),
+        },
+        Err(_) if g.find(statement.name.bytes()).is_some() => Err(Refused(NameTaken)),
+        Err(fault) => Err(fault),
     }
 }
 
