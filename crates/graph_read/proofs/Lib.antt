@@ -15,3 +15,4 @@ mod NodeSteps
 mod NoPure
 mod NodeRead
 mod ReadNodes
+mod GraphRead

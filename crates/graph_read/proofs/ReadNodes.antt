@@ -1,16 +1,15 @@
 -- What nodes that are read have. That a node is one of a list is said by `Contains`.
-use Rattle.std.proofs.Common.{◌≡◌, ◌≢◌, ℕ, ◌+◌, ◌≤◌, suc, Bool, true, false, cond, ◌||◌, List, [], ◌∷◌, ◌++◌, length, length-append, All, Contains, Option, Some, Result, Ok, Err, refl, sym, ap, subst, ◌∙◌, arith}
+use Rattle.std.proofs.Common.{◌≡◌, ◌≢◌, ℕ, ◌+◌, ◌≤◌, suc, Bool, true, false, cond, ◌||◌, List, [], ◌∷◌, ◌++◌, length, length-append, le_trans, All, Contains, Some, Result, Ok, Err, refl, sym, ap, subst, ◌∙◌, arith}
 use Rattle.std.specs.Prelude.{bytes_eq}
 use Rattle.std.specs.List.{AllPairs, list_any}
-use Rattle.std.specs.Ordering.{eq_by_cmp}
 use Rattle.std.specs.Cmp.{Equal-is}
 use Rattle.std.specs.FinMap as map
+use Rattle.std.specs.Str.{IsUtf8}
 use Rattle.std.proofs.lemmas.Bool.{true≢false}
 use Rattle.std.proofs.lemmas.List.Elements.{All-nil, All-cons, All-push, All-contains}
 use Rattle.std.proofs.lemmas.List.Quantifiers.{all_pairs_push}
 use Rattle.std.proofs.lemmas.Map.Views.{Contains-from_lookup}
 use Rattle.std.proofs.lemmas.Slice.Eq.{bytes_eq-Decides}
-use Rattle.std.specs.Str.{IsUtf8}
 use Rattle.port_types.specs.PortLaws.{ReadsPorts}
 use Rattle.dot_text.specs.declared.doc.DocNode.{DocNode}
 use Rattle.dot_text.specs.declared.doc.DocEdge.{DocEdge}
@@ -68,21 +67,23 @@ nodes_entries nodes name body found =
 module _ (Known : DocNode → Type 0) (IsSo : Name × Body → Type 0)
     (tells : (earlier : List Name) (place : ℕ) (statement : DocNode) (body : Body) → Known statement → IsRead earlier place statement body → IsSo (statement.name, body))
     (statements : List DocNode) (nodes : List (Name × Body)) (known : EachOf Known statements) (read : nodes_reading [] 1 statements ≡ Ok nodes) where
-  found_so : (name : Name) (body : Body) → map.get (map.from_entries {R = name_cmp} nodes) name ≡ Some body → IsSo (name, body)
-  found_so name body found =
-      let each =
-      holds_on Known (λ before place. All IsSo before)
-      (λ before place statement b is_known so is. All-push IsSo before (statement.name, b) so (tells (names_of before) place statement b is_known is)) [] 1 statements nodes known
-      (All-nil IsSo) read
-      in
-      All-contains IsSo nodes (name, body) each.1 (nodes_entries nodes name body found)
+  each_so : All IsSo nodes
+  each_so =
+      (holds_on Known (λ before place. All IsSo before)
+      (λ before place statement body is_known so is. All-push IsSo before (statement.name, body) so (tells (names_of before) place statement body is_known is)) [] 1 statements nodes known
+      (All-nil IsSo) read).1
 
+  found_so : (name : Name) (body : Body) → map.get (map.from_entries {R = name_cmp} nodes) name ≡ Some body → IsSo (name, body)
+  found_so name body found = All-contains IsSo nodes (name, body) each_so (nodes_entries nodes name body found)
+
+-- each kind that is read meets its row
 pub nodes_kinds : (statements : List DocNode) (nodes : List (Name × Body)) → nodes_reading [] 1 statements ≡ Ok nodes → ReadsPorts → RowsAreMet →
     (name : Name) (body : Body) → map.get (map.from_entries {R = name_cmp} nodes) name ≡ Some body → KindOk body.kind
 nodes_kinds statements nodes read says_ports rows =
     found_so (λ statement. Unit {0}) (λ node. KindOk node.1.kind) (λ earlier place statement body known is. kind_is_ok says_ports rows statement.pairs body.kind is.kind) statements nodes
     (nothing_known statements) read
 
+-- each name that is read is allowed
 pub nodes_named : (statements : List DocNode) (nodes : List (Name × Body)) → nodes_reading [] 1 statements ≡ Ok nodes → EachOf (NodeTexts IsUtf8) statements →
     (name : Name) (body : Body) → map.get (map.from_entries {R = name_cmp} nodes) name ≡ Some body → IsName name
 nodes_named statements nodes read texts =
@@ -111,15 +112,14 @@ one_more_few nodes place node are few =
     let more = length-append nodes (node ∷ []) in
     let count = are.0 in (omega (arith, more, count), omega (arith, more, count, few))
 
+-- no more nodes than the limit
+few_nodes : (statements : List DocNode) (nodes : List (Name × Body)) → nodes_reading [] 1 statements ≡ Ok nodes → length nodes ≤ 65536
+few_nodes statements nodes read =
+    (holds_on (λ statement. Unit {0}) AreFew (λ before place statement body known are is. one_more_few before place (statement.name, body) are is.few) [] 1 statements nodes
+    (nothing_known statements) (omega arith, omega arith) read).1.1
+
 pub nodes_few : (statements : List DocNode) (nodes : List (Name × Body)) → nodes_reading [] 1 statements ≡ Ok nodes → map.len (map.from_entries {R = name_cmp} nodes) ≤ 65536
-nodes_few statements nodes read =
-    let at_end =
-    holds_on (λ statement. Unit {0}) AreFew (λ before place statement body known are is. one_more_few before place (statement.name, body) are is.few) [] 1 statements nodes
-    (nothing_known statements) (omega arith, omega arith) read
-    in
-    let entries = few_entries nodes in
-    let few = at_end.1.1 in
-    omega (arith, entries, few)
+nodes_few statements nodes read = le_trans (few_entries nodes) (few_nodes statements nodes read)
 
 -- Different names
 
@@ -131,7 +131,7 @@ apart name other tail none =
     or_second true b e = absurd (true≢false e)
     or_second false b e = e
 
--- no two nodes have one name
+-- the names are pairwise different
 abbrev AreApart : List (Name × Body) → Type 0
 AreApart nodes = AllPairs (λ a b. a.0 ≢ b.0) nodes
 
@@ -143,6 +143,7 @@ all_other name (node ∷ nodes) new =
 one_more_apart : (nodes : List (Name × Body)) (name : Name) (body : Body) → AreApart nodes → list_any (bytes_eq name) (names_of nodes) ≡ false → AreApart (nodes ++ (name, body) ∷ [])
 one_more_apart nodes name body are new = all_pairs_push (λ a b. a.0 ≢ b.0) nodes (name, body) are (all_other name nodes new)
 
+-- no two nodes that are read have one name
 pub nodes_apart : (statements : List DocNode) (nodes : List (Name × Body)) → nodes_reading [] 1 statements ≡ Ok nodes → AllPairs (λ a b. a.0 ≢ b.0) nodes
 nodes_apart statements nodes read =
     (holds_on (λ statement. Unit {0}) (λ before place. AreApart before) (λ before place statement body known are is. one_more_apart before statement.name body are is.new) [] 1 statements nodes
