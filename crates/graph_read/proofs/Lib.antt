@@ -13,3 +13,6 @@ mod OpenPorts
 mod NodeLists
 mod NodeSteps
 mod NoPure
+mod NodeRead
+mod ReadNodes
+mod GraphRead
