@@ -1,11 +1,13 @@
 use crate::GraphFaultKind::{
-    self, BadName, NameTaken, NoKind, PortOpen, PortTaken, ShapeDiffers, UnknownNode, UnknownPort,
+    self, BadName, NameTaken, NoKind, PortOpen, PortTaken, ShapeDiffers, TooMany, UnknownNode,
+    UnknownPort,
 };
 use crate::{GraphFault, graph_of};
 use dot_text::read_doc;
 use graph_core::{Graph, PortAt};
 use port_types::Side;
 use std::alloc::Global;
+use std::fmt::Write;
 use std::process::Abort;
 use std::test::Fail;
 
@@ -127,6 +129,31 @@ fn open_ports_are_refused_in_order(rt: HostRuntime) -> Result<(), Fail> {
         check_refused(&rt, alloc, statements.as_str(), want)?;
     }
     Ok(())
+}
+
+/// So many nodes, named by their numbers from 1 on, of which no port is on a wire.
+fn sources(alloc: Global, count: usize) -> Result<String, Fail> {
+    let mut statements = String::new(alloc);
+    for number in 1..=count {
+        write!(statements, " {number} [type=Source, out=\"out1:1\"]")?;
+    }
+    Ok(statements)
+}
+
+#[test]
+fn the_node_at_place_65536_is_read(rt: HostRuntime) -> Result<(), Fail> {
+    let alloc = rt.alloc();
+    let statements = sources(alloc, 65_536)?;
+    let open = (PortOpen, 1, "1", Some((Side::Outs, 1)));
+    check_refused(&rt, alloc, statements.as_str(), open)
+}
+
+#[test]
+fn the_node_at_place_65537_is_one_too_many(rt: HostRuntime) -> Result<(), Fail> {
+    let alloc = rt.alloc();
+    let statements = sources(alloc, 65_537)?;
+    let last = (TooMany, 65_537, "65537", None);
+    check_refused(&rt, alloc, statements.as_str(), last)
 }
 
 #[test]
