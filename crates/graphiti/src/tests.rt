@@ -1,6 +1,8 @@
 //! The answers of `run` over sources and sinks in memory.
 mod faults;
 mod gcd;
+mod kinds;
+mod refusals;
 mod spellings;
 mod streams;
 mod strip;
@@ -9,8 +11,11 @@ mod words;
 
 use crate::run::run;
 use crate::status::Status;
+use graph_read::{GraphFaultKind, GraphRefusal};
 use gx_base::{MemSink, MemSource};
+use port_types::{Side, Text};
 use std::alloc::Global;
+use std::process::Abort;
 use std::test::Fail;
 
 /// The room of a sink: more than any answer here takes.
@@ -98,4 +103,38 @@ fn run_in(
     let out = Vec::from_slice(alloc, out.taken())?;
     let err = Vec::from_slice(alloc, err.taken())?;
     Ok(Outcome { status, out, err })
+}
+
+/// The status of a document that is refused so.
+fn refused_status(
+    alloc: Global,
+    kind: GraphFaultKind,
+    place: usize,
+    name: &str,
+    port_open: Option<(Side, u8)>,
+) -> Result<Status, Fail> {
+    let name = Text::from_string(String::from_str(alloc, name)?);
+    Ok(Status::Graph(GraphRefusal {
+        kind,
+        place,
+        name,
+        port_open,
+    }))
+}
+
+/// Checks that each command that reads refuses the input with this number and line, and writes nothing else.
+fn check_refused(
+    rt: &impl Abort,
+    alloc: Global,
+    input: &[u8],
+    number: u8,
+    line: &str,
+) -> Result<(), Fail> {
+    for command in ["print", "strip"] {
+        let outcome = run_in(alloc, CALM, &[command], input)?;
+        assert_eq!(rt; outcome.err.as_slice(), line.as_bytes(), "{input:?}");
+        assert_eq!(rt; outcome.status.number(), number, "{input:?}");
+        assert_eq!(rt; outcome.out.len(), 0, "{input:?}");
+    }
+    Ok(())
 }

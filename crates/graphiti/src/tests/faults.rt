@@ -34,7 +34,8 @@ fn what_is_no_document_has_its_byte(rt: HostRuntime) -> Result<(), Fail> {
     for (input, at) in rows {
         for command in ["print", "strip"] {
             let outcome = run_in(rt.alloc(), CALM, &[command], input)?;
-            assert_eq!(rt; outcome.status, Status::Syntax(at), "{input:?}");
+            let told = matches!(outcome.status, Status::Syntax(place) if place == at);
+            assert!(rt; told, "{input:?}");
             assert_eq!(rt; outcome.out.len(), 0);
         }
     }
@@ -53,7 +54,8 @@ fn each_cut_of_a_document_is_a_syntax_fault(rt: HostRuntime) -> Result<(), Fail>
     }
     for whole in [document, text] {
         let outcome = run_in(rt.alloc(), CALM, &["print"], whole)?;
-        assert_eq!(rt; outcome.status, Status::NotYet);
+        assert!(rt; matches!(outcome.status, Status::Done));
+        assert_eq!(rt; outcome.out.as_slice(), text);
     }
     Ok(())
 }
@@ -62,11 +64,11 @@ fn each_cut_of_a_document_is_a_syntax_fault(rt: HostRuntime) -> Result<(), Fail>
 fn an_input_past_the_limit_is_too_long(rt: HostRuntime) -> Result<(), Fail> {
     let input = vec![in rt.alloc(); b' '; 16_777_217]?;
     let outcome = run_in(rt.alloc(), CALM, &["strip"], &input)?;
-    assert_eq!(rt; outcome.status, Status::TooLong);
+    assert!(rt; matches!(outcome.status, Status::TooLong));
     assert_eq!(rt; outcome.out.len(), 0);
     let line = b"graphiti: input longer than 16777216 bytes\n".as_slice();
     assert_eq!(rt; outcome.err.as_slice(), line);
     let outcome = run_in(rt.alloc(), CALM, &["strip"], &input[1..])?;
-    assert_eq!(rt; outcome.status, Status::Syntax(16_777_216));
+    assert!(rt; matches!(outcome.status, Status::Syntax(16_777_216)));
     Ok(())
 }

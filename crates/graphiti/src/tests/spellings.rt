@@ -1,4 +1,4 @@
-//! Documents in odd spellings, and documents that are not plain.
+//! Documents in odd spellings.
 use super::{CALM, CHAIN, EMPTY, NAMED, Setting, run_in};
 use crate::status::Status;
 use std::test::Fail;
@@ -57,7 +57,7 @@ fn documents_are_read_in_any_spelling(rt: HostRuntime) -> Result<(), Fail> {
         for piece in [1, 7, 4096] {
             let setting = Setting { piece, ..CALM };
             let outcome = run_in(rt.alloc(), setting, &["--", command], input.as_bytes())?;
-            assert_eq!(rt; outcome.status, Status::Done, "{command} {input}");
+            assert!(rt; matches!(outcome.status, Status::Done), "{command} {input}");
             assert_eq!(rt;
                 outcome.out.as_slice(),
                 answer.as_bytes(),
@@ -73,35 +73,7 @@ fn documents_are_read_in_any_spelling(rt: HostRuntime) -> Result<(), Fail> {
 fn comments_behind_a_document_hold_any_bytes(rt: HostRuntime) -> Result<(), Fail> {
     let input = b"digraph G {} /*\xff*/ // \xff\n#\xff";
     let outcome = run_in(rt.alloc(), CALM, &["print"], input)?;
-    assert_eq!(rt; outcome.status, Status::Done);
+    assert!(rt; matches!(outcome.status, Status::Done));
     assert_eq!(rt; outcome.out.as_slice(), EMPTY.as_bytes());
-    Ok(())
-}
-
-#[test]
-fn documents_that_are_not_plain_are_not_yet_taken(rt: HostRuntime) -> Result<(), Fail> {
-    let rows: [&[u8]; 7] = [
-        // a name twice
-        b"digraph G {\n  \"s\" [type = \"Buffer\", in = \"in1:8\", out = \"out1:8\"];\n  \"s\" [type = \"Buffer\", in = \"in1:8\", out = \"out1:8\"];\n  \"s\" -> \"s\" [from = \"out1\", to = \"in1\"];\n}\n",
-        // an open port
-        b"digraph G {\n  \"a\" [type = \"Entry\", out = \"out1:8\"];\n}\n",
-        // two shapes
-        b"digraph G {\n  \"a\" [type = \"Entry\", out = \"out1:8\"];\n  \"z\" [type = \"Exit\", in = \"in1:9\"];\n  \"a\" -> \"z\" [from = \"out1\", to = \"in1\"];\n}\n",
-        // a width past 64
-        b"digraph G {\n  \"s\" [type = \"Buffer\", in = \"in1:65\", out = \"out1:65\"];\n  \"s\" -> \"s\" [from = \"out1\", to = \"in1\"];\n}\n",
-        // a tab in a name
-        b"digraph G {\n  \"s\t\" [type = \"Buffer\", in = \"in1:8\", out = \"out1:8\"];\n  \"s\t\" -> \"s\t\" [from = \"out1\", to = \"in1\"];\n}\n",
-        // a type of no kind, and a node that only an edge names
-        b"digraph G { a [type = Source, out = \"out1:8\"] }",
-        b"digraph G { a [type = Entry, out = \"out1:8\"] a -> z [from = out1, to = in1] }",
-    ];
-    for input in rows {
-        for command in ["print", "strip"] {
-            let outcome = run_in(rt.alloc(), CALM, &[command], input)?;
-            assert_eq!(rt; outcome.status, Status::NotYet, "{input:?}");
-            assert_eq!(rt; outcome.out.len(), 0);
-            assert_eq!(rt; outcome.err.as_slice(), b"graphiti: not yet\n".as_slice());
-        }
-    }
     Ok(())
 }

@@ -1,5 +1,5 @@
 //! Graphs and their stripped graphs.
-use super::{CALM, CHAIN, EMPTY, NAMED, Setting, run_in};
+use super::{CALM, CHAIN, EMPTY, NAMED, Setting, check_refused, run_in};
 use crate::status::Status;
 use std::alloc::{AllocError, Global};
 use std::fmt::Write;
@@ -52,7 +52,10 @@ fn small_graphs_are_stripped_in_any_pieces(rt: HostRuntime) -> Result<(), Fail> 
         for piece in [1, 7, 4096] {
             let setting = Setting { piece, ..CALM };
             let outcome = run_in(rt.alloc(), setting, &["strip"], input.as_bytes())?;
-            assert_eq!(rt; outcome.status, Status::Done, "in pieces of {piece}");
+            assert!(rt;
+                matches!(outcome.status, Status::Done),
+                "in pieces of {piece}"
+            );
             assert_eq!(rt;
                 outcome.out.as_slice(),
                 answer.as_bytes(),
@@ -128,15 +131,14 @@ fn a_long_chain_and_wide_forks(rt: HostRuntime) -> Result<(), Fail> {
     let chain = chain_text(alloc, 2000)?;
     let bare = chain_text(alloc, 0)?;
     let outcome = run_in(alloc, CALM, &["strip"], chain.as_bytes())?;
-    assert_eq!(rt; outcome.status, Status::Done);
+    assert!(rt; matches!(outcome.status, Status::Done));
     assert_eq!(rt; outcome.out.as_slice(), bare.as_bytes());
-    for (outputs, status) in [(1, Status::Done), (64, Status::Done), (65, Status::NotYet)] {
+    for outputs in [1, 64] {
         let fork = fork_text(alloc, outputs)?;
         let outcome = run_in(alloc, CALM, &["strip"], fork.as_bytes())?;
-        assert_eq!(rt; outcome.status, status, "{outputs} outputs");
-        if status == Status::Done {
-            assert_eq!(rt; outcome.out.as_slice(), fork.as_bytes());
-        }
+        assert!(rt; matches!(outcome.status, Status::Done), "{outputs} outputs");
+        assert_eq!(rt; outcome.out.as_slice(), fork.as_bytes());
     }
-    Ok(())
+    let fork = fork_text(alloc, 65)?;
+    check_refused(&rt, alloc, fork.as_bytes(), 3, "graphiti: BadPorts \"f\"\n")
 }

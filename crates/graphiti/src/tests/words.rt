@@ -1,7 +1,8 @@
 //! The words of the command line, and the numbers of statuses.
-use super::{CALM, EMPTY, Outcome, Setting, owned_words, run_in};
+use super::{CALM, EMPTY, Outcome, Setting, owned_words, refused_status, run_in};
 use crate::status::Status;
 use crate::words::{Command, command_of};
+use graph_read::GraphFaultKind;
 use std::alloc::Global;
 use std::test::Fail;
 
@@ -30,7 +31,7 @@ fn wrong_words_are_told_before_anything_is_read(rt: HostRuntime) -> Result<(), F
     ];
     for words in rows {
         let outcome = run_unread(rt.alloc(), words)?;
-        assert_eq!(rt; outcome.status, Status::Usage, "{words:?}");
+        assert!(rt; matches!(outcome.status, Status::Usage), "{words:?}");
         assert_eq!(rt; outcome.out.len(), 0);
         let line =
             b"graphiti: usage: print, strip, gather, unfold, rewrite, trace, loops, sim [LIMIT], check, gen N\n".as_slice();
@@ -50,7 +51,7 @@ fn commands_that_do_not_run_yet_read_nothing(rt: HostRuntime) -> Result<(), Fail
     ];
     for words in rows {
         let outcome = run_unread(rt.alloc(), words)?;
-        assert_eq!(rt; outcome.status, Status::NotYet, "{words:?}");
+        assert!(rt; matches!(outcome.status, Status::NotYet), "{words:?}");
         assert_eq!(rt; outcome.out.len(), 0);
         assert_eq!(rt; outcome.err.as_slice(), b"graphiti: not yet\n".as_slice());
     }
@@ -118,13 +119,15 @@ fn words_name_commands(rt: HostRuntime) -> Result<(), Fail> {
 }
 
 #[test]
-fn statuses_have_their_numbers(rt: HostRuntime) {
+fn statuses_have_their_numbers(rt: HostRuntime) -> Result<(), Fail> {
+    let refused = refused_status(rt.alloc(), GraphFaultKind::NoKind, 1, "a", None)?;
     let rows = [
         (Status::Done, 0),
         (Status::Usage, 1),
         (Status::Syntax(0), 2),
         (Status::Syntax(7), 2),
         (Status::TooLong, 2),
+        (refused, 3),
         (Status::ReadFault, 6),
         (Status::WriteFault, 7),
         (Status::NoMemory, 8),
@@ -133,4 +136,5 @@ fn statuses_have_their_numbers(rt: HostRuntime) {
     for (status, number) in rows {
         assert_eq!(rt; status.number(), number);
     }
+    Ok(())
 }
