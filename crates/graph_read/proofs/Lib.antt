@@ -13,3 +13,5 @@ mod OpenPorts
 mod NodeLists
 mod NodeSteps
 mod NoPure
+mod PortMaps
+mod ReadWires
