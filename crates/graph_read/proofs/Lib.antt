@@ -15,3 +15,4 @@ mod NodeSteps
 mod NoPure
 mod PortMaps
 mod ReadWires
+mod PortsClosed
