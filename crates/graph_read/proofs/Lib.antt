@@ -16,3 +16,6 @@ mod NoPure
 mod PortMaps
 mod ReadWires
 mod PortsClosed
+mod NodeRead
+mod ReadNodes
+mod GraphRead

@@ -21,7 +21,8 @@ name_from name ok =
     and_from _ _ (and_from _ _ (le-leb 1 (length name) ok.some) (le-leb (length name) 255 ok.few))
     (list_all-from_AllPass is_name_byte name (All-weaker IsNameByte (λ byte. is_name_byte byte ≡ true) byte_from name ok.bytes))
 
-name_to : (name : Name) → IsUtf8 name → is_name name ≡ true → IsName name
+-- a text that the test lets through may be a name
+pub name_to : (name : Name) → IsUtf8 name → is_name name ≡ true → IsName name
 name_to name utf8 test =
     let parts = and_parts (nat_le 1 (length name) && nat_le (length name) 255) (list_all is_name_byte name) test in
     let bounds = and_parts (nat_le 1 (length name)) (nat_le (length name) 255) parts.0 in
