@@ -19,3 +19,4 @@ mod PortsClosed
 mod NodeRead
 mod ReadNodes
 mod GraphRead
+mod ReadTyped

@@ -18,13 +18,8 @@ use Rattle.graph_read.specs.declared.fault.GraphFaultKind.{GraphFaultKind}
 use Rattle.graph_read.specs.declared.fault.GraphFaultKind.TheVariants.{UnknownNode, UnknownPort, PortTaken, ShapeDiffers}
 use Rattle.graph_read.specs.Attributes.{last_value}
 use Rattle.graph_read.specs.GraphReading.{NamedWire, refusal, then_read, named_in, port_there, wire_between, edge_between, edge_reading, edges_reading, graph_of_nodes}
+use Rattle.graph_read.proofs.NodeRead.{same_answer, refused}
 use Rattle.graph_read.proofs.PortMaps.{port_cases, fed_here, fed_elsewhere, wired_where_fed}
-
-no_value : {A E : Type 0} (fault : E) (value : A) → ◌≡◌ {A = Result A E} (Err fault) (Ok value) → ⊥
-no_value fault value e = absurd (cc)
-
-same_value : {A E : Type 0} (a b : A) → ◌≡◌ {A = Result A E} (Ok a) (Ok b) → a ≡ b
-same_value a b e = cc
 
 -- The port that an edge names
 
@@ -85,10 +80,10 @@ joins_both : (g : NamedGraph) (wire : NamedWire) (source target : Port × Shape)
     (is_wired g Ins target.0 || is_wired g Outs source.0) ≡ taken → bytes_eq source.1 target.1 ≡ same →
     ◌≡◌ {A = Result NamedWire GraphFaultKind} (if taken then Err PortTaken else (if same then Ok (record { source = source.0; target = target.0 }) else Err ShapeDiffers)) (Ok wire) →
     Joins g wire (Some source) (Some target)
-joins_both g wire source target true same free shapes is = absurd (no_value PortTaken wire is)
-joins_both g wire source target false false free shapes is = absurd (no_value ShapeDiffers wire is)
+joins_both g wire source target true same free shapes is = refused PortTaken wire is
+joins_both g wire source target false false free shapes is = refused ShapeDiffers wire is
 joins_both g wire source target false true free shapes is =
-    let ends = same_value (record { source = source.0; target = target.0 }) wire is in
+    let ends = same_answer (record { source = source.0; target = target.0 }) wire is in
     let one : source.1 ≡ target.1 = (bytes_eq-Decides source.1 target.1).0 shapes in
     let frees = or_parts (is_wired g Ins target.0) (is_wired g Outs source.0) free in
     record {
@@ -100,8 +95,8 @@ joins_both g wire source target false true free shapes is =
     }
 
 joins : (g : NamedGraph) (wire : NamedWire) (source target : Option (Port × Shape)) → wire_between g source target ≡ Ok wire → Joins g wire source target
-joins g wire None target is = absurd (no_value UnknownPort wire is)
-joins g wire (Some source) None is = absurd (no_value UnknownPort wire is)
+joins g wire None target is = refused UnknownPort wire is
+joins g wire (Some source) None is = refused UnknownPort wire is
 joins g wire (Some source) (Some target) is =
     joins_both g wire source target (is_wired g Ins target.0 || is_wired g Outs source.0) (bytes_eq source.1 target.1) refl refl is
 
@@ -111,8 +106,8 @@ none_is (Some x) e = absurd (true≢false e)
 
 can_wire_between : (g : NamedGraph) (edge : DocEdge) (wire : NamedWire) (from to : Option Body) → map.get g.nodes edge.source ≡ from → map.get g.nodes edge.target ≡ to →
     edge_between g edge from to ≡ Ok wire → CanWire g wire.source wire.target
-can_wire_between g edge wire None to is_from is_to is = absurd (no_value UnknownNode wire is)
-can_wire_between g edge wire (Some from) None is_from is_to is = absurd (no_value UnknownNode wire is)
+can_wire_between g edge wire None to is_from is_to is = refused UnknownNode wire is
+can_wire_between g edge wire (Some from) None is_from is_to is = refused UnknownNode wire is
 can_wire_between g edge wire (Some from) (Some to) is_from is_to is =
     let from_text = last_value (codes "from") edge.pairs in
     let to_text = last_value (codes "to") edge.pairs in
@@ -193,11 +188,11 @@ module _ (P : NamedGraph → Type 0) (keeps : (g : NamedGraph) (edge : DocEdge) 
       ((more : NamedGraph) → edges_reading more (place + 1) edges ≡ Ok h → P more → P h) →
       (found : Result NamedWire GraphFaultKind) → edge_reading g edge ≡ found →
       then_read place edge.target found (λ (wire : NamedWire). edges_reading (with_wire g wire.source wire.target) (place + 1) edges) ≡ Ok h → P g → P h
-  first_kept g place edge edges others (Err fault) is read holds = absurd (no_value (refusal fault place edge.target) h read)
+  first_kept g place edge edges others (Err fault) is read holds = refused (refusal fault place edge.target) h read
   first_kept g place edge edges others (Ok wire) is read holds = others (with_wire g wire.source wire.target) read (keeps g edge wire is holds)
 
   pub edges_keep : (g : NamedGraph) (place : ℕ) (edges : List DocEdge) → edges_reading g place edges ≡ Ok h → P g → P h
-  edges_keep g place [] read holds = subst P (same_value g h read) holds
+  edges_keep g place [] read holds = subst P (same_answer g h read) holds
   edges_keep g place (edge ∷ edges) read holds =
       first_kept g place edge edges (λ more. edges_keep more (place + 1) edges) (edge_reading g edge) refl read holds
 
