@@ -13,10 +13,10 @@ mod OpenPorts
 mod NodeLists
 mod NodeSteps
 mod NoPure
+mod NodeRead
+mod ReadNodes
 mod PortMaps
 mod ReadWires
 mod PortsClosed
-mod NodeRead
-mod ReadNodes
 mod GraphRead
 mod ReadTyped

@@ -191,10 +191,14 @@ module _ (P : NamedGraph → Type 0) (keeps : (g : NamedGraph) (edge : DocEdge) 
   first_kept g place edge edges others (Err fault) is read holds = refused (refusal fault place edge.target) h read
   first_kept g place edge edges others (Ok wire) is read holds = others (with_wire g wire.source wire.target) read (keeps g edge wire is holds)
 
-  pub edges_keep : (g : NamedGraph) (place : ℕ) (edges : List DocEdge) → edges_reading g place edges ≡ Ok h → P g → P h
+  edges_keep : (g : NamedGraph) (place : ℕ) (edges : List DocEdge) → edges_reading g place edges ≡ Ok h → P g → P h
   edges_keep g place [] read holds = subst P (same_answer g h read) holds
   edges_keep g place (edge ∷ edges) read holds =
       first_kept g place edge edges (λ more. edges_keep more (place + 1) edges) (edge_reading g edge) refl read holds
+
+-- edges change no node
+pub edges_keep_nodes : (g : NamedGraph) (place : ℕ) (edges : List DocEdge) (h : NamedGraph) → edges_reading g place edges ≡ Ok h → h.nodes ≡ g.nodes
+edges_keep_nodes g place edges h read = edges_keep (λ k. k.nodes ≡ g.nodes) (λ before edge wire is same. same) h g place edges read refl
 
 no_wires : (nodes : List (Name × Body)) (target source : Port) → map.get (graph_of_nodes nodes).feeders target ≡ Some source → ⊥
 no_wires nodes target source fed = none-some source (sym (map.get-empty port_cmp target) ∙ fed)
