@@ -211,6 +211,7 @@ nodes_wires nodes =
       once = λ p q source fed also. absurd (no_wires nodes p source fed);
     }
 
+-- edges add only wires that are right
 pub edges_wires : (g : NamedGraph) (place : ℕ) (edges : List DocEdge) (h : NamedGraph) → edges_reading g place edges ≡ Ok h → HasWires g → HasWires h
 edges_wires g place edges h read has =
     edges_keep HasWires (λ before edge wire is right. wire_more before wire.source wire.target (can_wire before edge wire is) right) h g place edges read has
