@@ -9,7 +9,8 @@ use Rattle.graph_read.specs.declared.fault.GraphRefusal.{GraphRefusal}
 use Rattle.graph_read.specs.GraphReading.{GraphReading, NodesReading, nodes_reading, edges_reading, first_open, graph_of_nodes, unless, closed, wired, graph_reading}
 use Rattle.graph_read.specs.GraphLaws.{ReadIsNamed}
 use Rattle.graph_read.proofs.NodeRead.{same_answer, refused}
-use Rattle.graph_read.proofs.ReadNodes.{nodes_named, edges_keep_nodes}
+use Rattle.graph_read.proofs.ReadNodes.{nodes_named}
+use Rattle.graph_read.proofs.ReadWires.{edges_keep_nodes}
 
 -- its nodes and its wires are read, and no port is open
 pub record IsGraphRead (doc : Doc) (g : NamedGraph) : Type 0 where

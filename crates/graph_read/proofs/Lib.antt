@@ -15,4 +15,8 @@ mod NodeSteps
 mod NoPure
 mod NodeRead
 mod ReadNodes
+mod PortMaps
+mod ReadWires
+mod PortsClosed
 mod GraphRead
+mod ReadTyped

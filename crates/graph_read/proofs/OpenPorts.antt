@@ -20,7 +20,7 @@ use Rattle.graph_read.specs.GraphReading.{first_free, open_port, open_refusal, f
 
 -- Lists of ports
 
-abbrev port_of : Name → ℕ → Port
+abbrev pub port_of : Name → ℕ → Port
 port_of name number = record { node = name; port = number }
 
 step_on : (h : NamedGraph) (side : Side) (name : Name) (number : ℕ) (shapes : List Shape) (wired : Bool) → is_wired h side (port_of name number) ≡ wired →

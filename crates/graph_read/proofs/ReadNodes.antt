@@ -1,5 +1,5 @@
 -- What nodes that are read have. That a node is one of a list is said by `Contains`.
-use Rattle.std.proofs.Common.{◌≡◌, ◌≢◌, ℕ, ◌+◌, ◌≤◌, suc, Bool, true, false, cond, ◌||◌, List, [], ◌∷◌, ◌++◌, length, length-append, le_trans, All, Contains, Some, Result, Ok, Err, refl, sym, ap, subst, ◌∙◌, arith}
+use Rattle.std.proofs.Common.{◌≡◌, ◌≢◌, ℕ, ◌+◌, ◌≤◌, suc, Bool, true, false, cond, ◌||◌, List, [], ◌∷◌, ◌++◌, length, length-append, le_trans, All, Contains, Some, Ok, Err, refl, sym, ap, subst, ◌∙◌, arith}
 use Rattle.std.specs.Prelude.{bytes_eq}
 use Rattle.std.specs.List.{AllPairs, list_any}
 use Rattle.std.specs.Cmp.{Equal-is}
@@ -12,16 +12,13 @@ use Rattle.std.proofs.lemmas.Map.Views.{Contains-from_lookup}
 use Rattle.std.proofs.lemmas.Slice.Eq.{bytes_eq-Decides}
 use Rattle.port_types.specs.PortLaws.{ReadsPorts}
 use Rattle.dot_text.specs.declared.doc.DocNode.{DocNode}
-use Rattle.dot_text.specs.declared.doc.DocEdge.{DocEdge}
 use Rattle.dot_text.specs.Texts.{NodeTexts}
 use Rattle.dot_text.specs.Printing.{EachOf}
 use Rattle.graph_core.specs.Kind.{KindOk}
 use Rattle.graph_core.specs.Name.{Name, name_cmp, IsName}
 use Rattle.graph_core.specs.Node.{Body}
-use Rattle.graph_core.specs.NamedGraph.{NamedGraph, with_wire}
-use Rattle.graph_read.specs.declared.fault.GraphFaultKind.{GraphFaultKind}
 use Rattle.graph_read.specs.NodeReading.{NodeReading, node_reading}
-use Rattle.graph_read.specs.GraphReading.{NamedWire, GraphReading, refusal, then_read, names_of, nodes_reading, edge_reading, edges_reading}
+use Rattle.graph_read.specs.GraphReading.{refusal, then_read, names_of, nodes_reading}
 use Rattle.graph_read.specs.Laws.{RowsAreMet}
 use Rattle.graph_read.proofs.Lookups.{name_total, name_same}
 use Rattle.graph_read.proofs.Names.{name_to}
@@ -148,17 +145,3 @@ pub nodes_apart : (statements : List DocNode) (nodes : List (Name × Body)) → 
 nodes_apart statements nodes read =
     (holds_on (λ statement. Unit {0}) (λ before place. AreApart before) (λ before place statement body known are is. one_more_apart before statement.name body are is.new) [] 1 statements nodes
     (nothing_known statements) (λ i j d lt within. absurd (omega arith)) read).1
-
--- Edges
-
-wire_keeps : (place : ℕ) (name : Name) (read : Result NamedWire GraphFaultKind) (more : NamedWire → GraphReading) (g h : NamedGraph) →
-    ((wire : NamedWire) → more wire ≡ Ok h → h.nodes ≡ g.nodes) → then_read place name read more ≡ Ok h → h.nodes ≡ g.nodes
-wire_keeps place name (Err fault) more g h keeps read = refused (refusal fault place name) h read
-wire_keeps place name (Ok wire) more g h keeps read = keeps wire read
-
--- edges change no node
-pub edges_keep_nodes : (g : NamedGraph) (place : ℕ) (edges : List DocEdge) (h : NamedGraph) → edges_reading g place edges ≡ Ok h → h.nodes ≡ g.nodes
-edges_keep_nodes g place [] h read = ap (λ (k : NamedGraph). k.nodes) (sym (same_answer g h read))
-edges_keep_nodes g place (edge ∷ edges) h read =
-    wire_keeps place edge.target (edge_reading g edge) (λ wire. edges_reading (with_wire g wire.source wire.target) (place + 1) edges) g h
-    (λ wire. edges_keep_nodes (with_wire g wire.source wire.target) (place + 1) edges h) read
