@@ -6,8 +6,8 @@ mod refusals;
 mod spellings;
 mod streams;
 mod strip;
-mod worked;
 mod words;
+mod worked;
 
 use crate::run::run;
 use crate::status::Status;

@@ -122,8 +122,15 @@ fn check_print(rt: &impl Abort, alloc: Global, input: &str, output: &str) -> Res
     for piece in [1, 64, 4096] {
         let setting = Setting { piece, ..CALM };
         let outcome = run_in(alloc, setting, &["print"], input.as_bytes())?;
-        assert!(rt; matches!(outcome.status, Status::Done), "in pieces of {piece}");
-        assert_eq!(rt; outcome.out.as_slice(), output.as_bytes(), "in pieces of {piece}");
+        assert!(rt;
+            matches!(outcome.status, Status::Done),
+            "in pieces of {piece}"
+        );
+        assert_eq!(rt;
+            outcome.out.as_slice(),
+            output.as_bytes(),
+            "in pieces of {piece}"
+        );
         assert_eq!(rt; outcome.err.len(), 0);
     }
     Ok(())
