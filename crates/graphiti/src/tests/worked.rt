@@ -148,3 +148,40 @@ fn canonical_texts_print_themselves(rt: HostRuntime) -> Result<(), Fail> {
 fn layout_goes_and_attributes_stay(rt: HostRuntime) -> Result<(), Fail> {
     check_print(&rt, rt.alloc(), WITH_LAYOUT, WITHOUT_LAYOUT)
 }
+
+#[test]
+fn graphs_without_buffers_strip_to_themselves(rt: HostRuntime) -> Result<(), Fail> {
+    for text in [GCD, TAGGED_GCD, TWO_LANES, WITHOUT_LAYOUT] {
+        let outcome = run_in(rt.alloc(), CALM, &["strip"], text.as_bytes())?;
+        assert!(rt; matches!(outcome.status, Status::Done));
+        assert_eq!(rt; outcome.out.as_slice(), text.as_bytes());
+    }
+    Ok(())
+}
+
+/// The greatest common divisor with a mark for this many tags.
+fn gcd_with(alloc: Global, tags: &str) -> Result<String, Fail> {
+    let (before, behind) = GCD.split_once("\"4\"").ok_or("no mark")?;
+    Ok(format!(in alloc; "{before}\"{tags}\"{behind}")?)
+}
+
+#[test]
+fn a_mark_is_for_1_to_256_tags(rt: HostRuntime) -> Result<(), Fail> {
+    let alloc = rt.alloc();
+    for tags in ["1", "256"] {
+        let text = gcd_with(alloc, tags)?;
+        check_print(&rt, alloc, text.as_str(), text.as_str())?;
+    }
+    for tags in ["0", "257", "04", ""] {
+        let text = gcd_with(alloc, tags)?;
+        let outcome = run_in(alloc, CALM, &["print"], text.as_bytes())?;
+        assert_eq!(rt; outcome.status.number(), 3, "{tags}");
+        assert_eq!(rt; outcome.out.len(), 0, "{tags}");
+        assert_eq!(rt;
+            outcome.err.as_slice(),
+            b"graphiti: BadTags \"i\"\n".as_slice(),
+            "{tags}"
+        );
+    }
+    Ok(())
+}
