@@ -12,6 +12,8 @@ pub mod PortFields
 pub mod PortShapes
 pub mod PortCounts
 pub mod SlotLists
+pub mod NameLookups
+pub mod Listed
 pub mod WireLists
 pub mod Finding
 pub mod Faults

@@ -1,21 +1,13 @@
 -- Live nodes in a list of slots.
-use Rattle.std.proofs.Common.{◌≡◌, ◌≢◌, ◌⊎◌, inl, inr, ℕ, zero, suc, ◌<◌, List, [], ◌∷◌, ◌++◌, length, get_or, Option, Some, None, slice_get, slice_set, refl, sym, ap, ◌∙◌, arith}
+use Rattle.std.proofs.Common.{◌≡◌, ◌⊎◌, inl, inr, ℕ, zero, suc, ◌<◌, List, [], ◌∷◌, ◌++◌, length, get_or, Option, Some, None, slice_get, slice_set, refl, sym, ap, arith}
 use Rattle.std.proofs.lemmas.Option.{slice_get-get_or}
 use Rattle.graph_core.specs.declared.node.Node.{Node}
 use Rattle.graph_core.specs.GraphValue.{flat}
-use Rattle.graph_core.specs.Inside.{IsNamedAt}
 use Rattle.graph_core.proofs.Known.{same_Some}
 
 -- what stands at an index is what reading it gives
 pub slot_at : (slots : List (Option Node)) (i : ℕ) (d : Option Node) → i < length slots → flat (slice_get slots i) ≡ get_or slots i d
 slot_at slots i d h = ap flat (slice_get-get_or slots i d h)
-
--- another name stands at the index
-pub other_named : (slots : List (Option Node)) (i : ℕ) (node : Node) (name : List ℕ) → flat (slice_get slots i) ≡ Some node → node.name ≢ name → ¬ (IsNamedAt slots i name)
-other_named slots i node name live other (found, is_found, is_name) = other (ap (λ n. n.name) (same_Some (sym live ∙ is_found)) ∙ is_name)
-
-pub none_named : (slots : List (Option Node)) (i : ℕ) (name : List ℕ) → flat (slice_get slots i) ≡ None → ¬ (IsNamedAt slots i name)
-none_named slots i name none (found, is_found, is_name) = let e : ◌≡◌ {A = Option Node} None (Some found) = sym none ∙ is_found in cc
 
 -- a live node stands within the list
 pub slot_within : (slots : List (Option Node)) (i : ℕ) (node : Node) → flat (slice_get slots i) ≡ Some node → i < length slots

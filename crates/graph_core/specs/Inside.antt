@@ -1,14 +1,16 @@
--- How a graph keeps its nodes and wires: a list of each.
-use Rattle.std.specs.Prelude.{◌≡◌, ℕ, refl, Bool, ◌||◌, List, [], ◌∷◌, map, Option, Some, None, slice_get}
+-- How a graph keeps its nodes and wires: a list of each, and a table of the nodes' names.
+use Rattle.std.specs.Prelude.{◌≡◌, ◌↔◌, ℕ, refl, Bool, ◌||◌, List, [], ◌∷◌, map, Option, Some, None, slice_get}
 use Rattle.std.specs.Coded.{Coded, code_by, coded×, coded_list, coded_option}
 use Rattle.std.specs.FinMap as map
+use Rattle.graph_core.specs.declared.names.Names.{Names}
 use Rattle.graph_core.specs.declared.node.Node.{Node}
 use Rattle.graph_core.specs.declared.place.NodeId.{NodeId}
 use Rattle.graph_core.specs.declared.place.PortAt.{PortAt}
 use Rattle.graph_core.specs.declared.wires.Wire.{Wire}
 use Rattle.graph_core.specs.contracts.node.Node as node
 use Rattle.graph_core.specs.contracts.place.PortAt as place
-use Rattle.graph_core.specs.Place.{place_cmp}
+use Rattle.graph_core.specs.Place.{index_of, place_cmp}
+use Rattle.graph_core.specs.Names.{id_under}
 use Rattle.graph_core.specs.GraphValue.{GraphValue, flat, is_at}
 
 -- a graph's value is stored as the pair of its fields
@@ -41,3 +43,7 @@ stands_at id wire = is_at id (Some wire.target) || is_at id (Some wire.source)
 -- no two live nodes have one name
 abbrev pub AreNamedApart : List (Option Node) → Type 0
 AreNamedApart slots = (i j : ℕ) (name : List ℕ) → IsNamedAt slots i name → IsNamedAt slots j name → i ≡ j
+
+-- the table has the id of each live node under its name, and no other
+abbrev pub AreListed : List (Option Node) → Names → Type 0
+AreListed slots names = (name : List ℕ) (id : NodeId) → (id_under names name ≡ Some id) ↔ IsNamedAt slots (index_of id) name

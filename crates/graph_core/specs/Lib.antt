@@ -3,6 +3,7 @@ pub mod Kind
 pub mod Node
 pub mod NamedGraph
 pub mod Place
+pub mod Names
 pub mod GraphValue
 pub mod Wiring
 pub mod Inside

@@ -12,10 +12,11 @@ ghost use Rattle.graph_core.specs.OpenPorts.{IsClosed, IsFirstOpenAt, AreWired, 
 
 use crate::copying::copy_slots;
 use crate::kind::{inputs, outputs};
+use crate::names::Names;
 use crate::node::Node;
 use crate::place::{NodeId, PortAt};
 use crate::port_shapes::{has_port, have_one_shape};
-use crate::slots::{ids_by_name, index_of, node_in, take_at};
+use crate::slots::{ids_by_name, node_in, push_named, take_named};
 use crate::wires::{Wire, remove_at, source_in, target_in};
 use port_types::{NoMemory, Side};
 use std::alloc::Global;
@@ -54,12 +55,13 @@ pub struct PortOpen {
 #[derive(Debug, Drop)]
 pub struct Graph {
     nodes: Vec<Option<Node>>,
+    names: Names,
     wires: Vec<Wire>,
 }
 
 impl Model for Graph {
     ghost use Rattle.graph_core.specs.GraphValue.{GraphValue, IsGraph};
-    ghost use Rattle.graph_core.specs.Inside.{graph_code, value_of, feeder_list, AreApart};
+    ghost use Rattle.graph_core.specs.Inside.{graph_code, value_of, feeder_list, AreApart, AreListed};
 
     ghost Value = { GraphValue };
 
@@ -67,7 +69,7 @@ impl Model for Graph {
 
     ghost view = { λ g. value_of g.nodes.items g.wires.items };
 
-    ghost invariant = { λ g. IsGraph (value_of g.nodes.items g.wires.items) × AreApart (feeder_list g.wires.items) };
+    ghost invariant = { λ g. IsGraph (value_of g.nodes.items g.wires.items) × AreApart (feeder_list g.wires.items) × AreListed g.nodes.items g.names };
 }
 
 impl Graph {
@@ -79,6 +81,7 @@ impl Graph {
     {
         Graph {
             nodes: Vec::new(alloc),
+            names: Names::new(alloc),
             wires: Vec::new(alloc),
         }
     }
@@ -96,10 +99,9 @@ impl Graph {
         if self.find(node.name.bytes()).is_some() {
             return Err(AddNode::NameTaken);
         }
-        let id = NodeId::new(self.nodes.len());
-        if self.nodes.push(Some(node)).is_err() {
+        let Ok(id) = push_named(&mut self.nodes, &mut self.names, node) else {
             return Err(AddNode::NoMemory);
-        }
+        };
         Ok(id)
     }
 
@@ -165,7 +167,7 @@ impl Graph {
         ensures names { IfSome result (λ node. by_names self.new ≡ without_node (by_names self.old) node.name) }
         ensures none { IfNone result (self.new ≡ self.old) }
     {
-        let node = take_at(&mut self.nodes, id.index());
+        let node = take_named(&mut self.nodes, &mut self.names, id);
         remove_at(&mut self.wires, id);
         node
     }
@@ -186,7 +188,7 @@ impl Graph {
         ensures none { IfNone result ((id : NodeId) → ¬ (HasName self.now id name.now)) }
         ensures names { is_some result ≡ map_of.contains_key (by_names self.now).nodes name.now }
     {
-        index_of(&self.nodes, name).map(NodeId::new)
+        self.names.get(name)
     }
 
     /// The output that feeds this input. `None` exactly where the input stands on no wire.
@@ -233,8 +235,13 @@ impl Graph {
         ensures { IfOk result (λ copy. copy ≡ self.now) }
     {
         let nodes = copy_slots(alloc, &self.nodes)?;
+        let names = self.names.copy()?;
         let wires = Vec::from_slice(alloc, &self.wires)?;
-        Ok(Graph { nodes, wires })
+        Ok(Graph {
+            nodes,
+            names,
+            wires,
+        })
     }
 
     /// The ids of the live nodes in the byte order of their names. The only error is want of memory.

@@ -16,6 +16,7 @@ mod kind;
 mod kind_tests;
 mod laws;
 mod name;
+mod names;
 mod node;
 mod owned;
 mod place;

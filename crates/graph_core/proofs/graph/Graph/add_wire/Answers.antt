@@ -35,7 +35,7 @@ invariant_of-self-2 c =
     let ok = subst IsGraph c.self.view_is c.self.invariant.0 in
     let apart = AreApart-push (feeder_list c.self.inside.wires.items) c.args.target c.args.source c.self.invariant.1 (free c) in
     let list = ap feeder_list (pushed c) ∙ feeder_list-push c.self.inside.wires.items (record { source = c.args.source; target = c.args.target }) in
-    (subst IsGraph (sym (value_is c)) (IsGraph-with_feeder c.args.self.now ok c.args.source c.args.target c.in_ok-try_wire.ensures), subst AreApart (sym list) apart)
+    (subst IsGraph (sym (value_is c)) (IsGraph-with_feeder c.args.self.now ok c.args.source c.args.target c.in_ok-try_wire.ensures), subst AreApart (sym list) apart, c.self.invariant.2)
 
 pub returns-clause-ok : goal.returns-clause-ok
 returns-clause-ok c = value_is c

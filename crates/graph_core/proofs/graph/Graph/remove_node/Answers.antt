@@ -1,5 +1,5 @@
-use Rattle.std.proofs.Common.{◌≡◌, ◌∙◌, sym, ap, subst, slice_get, slice_set, None}
-use Rattle.graph_core.specs.GraphValue.{IsGraph, flat, node_at, by_names, without_slot}
+use Rattle.std.proofs.Common.{◌≡◌, ◌∙◌, sym, ap, subst, slice_set, None}
+use Rattle.graph_core.specs.GraphValue.{IsGraph, node_at, by_names, without_slot}
 use Rattle.graph_core.specs.Inside.{value_of, feeder_list, AreApart}
 use Rattle.graph_core.proofs.Known.{if_some, if_none}
 use Rattle.graph_core.proofs.WireLists.{AreApart-filter}
@@ -9,11 +9,11 @@ use Rattle.graph_core.proofs.ByNamesAfter.{by_names-without_slot}
 use Rattle.graph_core.proofs.graph.Graph.remove_node.Goals as goal
 use Rattle.graph_core.proofs.graph.Graph.remove_node.Goals.{After-remove_at}
 
-emptied : (c : After-remove_at) → c.take_at-node.new.nodes.items ≡ slice_set c.self.inside.nodes.items c.args.id.index None
-emptied c = c.take_at-node.ensures.emptied ∙ ap (λ i. slice_set c.self.inside.nodes.items i None) c.index.ensures
+emptied : (c : After-remove_at) → c.take_named-node.new.nodes.items ≡ slice_set c.self.inside.nodes.items c.args.id.index None
+emptied c = c.take_named-node.ensures.emptied
 
 -- the fields then stand for the graph without the node
-value_is : (c : After-remove_at) → value_of c.take_at-node.new.nodes.items c.remove_at.new.wires.items ≡ without_slot c.args.self.now c.args.id
+value_is : (c : After-remove_at) → value_of c.take_named-node.new.nodes.items c.remove_at.new.wires.items ≡ without_slot c.args.self.now c.args.id
 value_is c =
     (λ i. value_of (emptied c i) (c.remove_at.ensures i))
     ∙ value_of-away c.self.inside.nodes.items c.self.inside.wires.items c.args.id c.self.invariant.1 ∙ ap (λ g. without_slot g c.args.id) c.self.view_is
@@ -23,20 +23,21 @@ invariant_of-self c =
     let ok = subst IsGraph c.self.view_is c.self.invariant.0 in (
       subst IsGraph (sym (value_is c)) (IsGraph-without_slot c.args.self.now ok c.args.id),
       subst (λ wires. AreApart (feeder_list wires)) (sym c.remove_at.ensures) (AreApart-filter _ c.self.inside.wires.items c.self.invariant.1),
+      c.take_named-node.ensures.listed,
     )
 
 pub returns-clause-gone : goal.returns-clause-gone
 returns-clause-gone c = value_is c
 
-node_is : (c : After-remove_at) → c.take_at-node.result ≡ node_at c.args.self.now c.args.id
-node_is c = c.take_at-node.ensures.node ∙ ap (λ i. flat (slice_get c.self.inside.nodes.items i)) c.index.ensures ∙ ap (λ g. node_at g c.args.id) c.self.view_is
+node_is : (c : After-remove_at) → c.take_named-node.result ≡ node_at c.args.self.now c.args.id
+node_is c = c.take_named-node.ensures.node ∙ ap (λ g. node_at g c.args.id) c.self.view_is
 
 pub returns-clause-names : goal.returns-clause-names
 returns-clause-names c =
     let ok = subst IsGraph c.self.view_is c.self.invariant.0 in
-    if_some c.take_at-node.result _ (λ node e. ap by_names (value_is c) ∙ by_names-without_slot c.args.self.now ok c.args.id node (sym (node_is c) ∙ e))
+    if_some c.take_named-node.result _ (λ node e. ap by_names (value_is c) ∙ by_names-without_slot c.args.self.now ok c.args.id node (sym (node_is c) ∙ e))
 
 pub returns-clause-none : goal.returns-clause-none
 returns-clause-none c =
     let ok = subst IsGraph c.self.view_is c.self.invariant.0 in
-    if_none c.take_at-node.result _ (λ e. value_is c ∙ without_slot-dead c.args.self.now ok c.args.id (sym (node_is c) ∙ e))
+    if_none c.take_named-node.result _ (λ e. value_is c ∙ without_slot-dead c.args.self.now ok c.args.id (sym (node_is c) ∙ e))
