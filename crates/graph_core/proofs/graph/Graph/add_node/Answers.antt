@@ -10,10 +10,10 @@ use Rattle.graph_core.proofs.graph.Graph.add_node.Goals as goal
 use Rattle.graph_core.proofs.graph.Graph.add_node.Goals.{Else-is_err}
 
 -- the fields then stand for the graph with the node
-value_is : (c : Else-is_err) → value_of c.push.new.self.items c.self.inside.wires.items ≡ with_slot c.args.self.now c.args.node
+value_is : (c : Else-is_err) → value_of c.push.new.self.items c.self.inside.wires ≡ with_slot c.args.self.now c.args.node
 value_is c =
     let pushed : c.push.new.self.items ≡ c.self.inside.nodes.items ++ Some c.args.node ∷ [] = search rules in
-    ap (λ slots. value_of slots c.self.inside.wires.items) pushed ∙ ap (λ g. with_slot g c.args.node) c.self.view_is
+    ap (λ slots. value_of slots c.self.inside.wires) pushed ∙ ap (λ g. with_slot g c.args.node) c.self.view_is
 
 no_key : (c : Else-is_err) → map.get (by_names c.args.self.now).nodes c.args.node.name ≡ None
 no_key c = none_by _ (ap (λ name. map.contains_key (by_names c.args.self.now).nodes name) (sym c.bytes.ensures.same) ∙ sym c.find.ensures.names ∙ sym c.is_some.ensures ∙ c.if-is_some.false)
@@ -23,10 +23,10 @@ fresh c = subst (λ name. (id : NodeId) → ¬ (HasName c.args.self.now id name)
 
 pub invariant_of-self-2 : goal.invariant_of-self-2
 invariant_of-self-2 c =
-    let ok = subst IsGraph c.self.view_is c.self.invariant.0 in
-    (subst IsGraph (sym (value_is c)) (IsGraph-with_slot c.args.self.now ok c.args.node c.requires (fresh c)), c.self.invariant.1)
+    let ok = subst IsGraph c.self.view_is c.self.invariant in
+    subst IsGraph (sym (value_is c)) (IsGraph-with_slot c.args.self.now ok c.args.node c.requires (fresh c))
 
 pub returns-clause-names : goal.returns-clause-names
 returns-clause-names c =
-    let ok = subst IsGraph c.self.view_is c.self.invariant.0 in
+    let ok = subst IsGraph c.self.view_is c.self.invariant in
     ap by_names (value_is c) ∙ by_names-with_slot c.args.self.now ok c.args.node (no_key c)

@@ -13,6 +13,6 @@ returns-clause-none c =
 
 pub returns-clause-names : goal.returns-clause-names
 returns-clause-names c =
-    let ok = subst IsGraph c.self.view_is c.self.invariant.0 in
+    let ok = subst IsGraph c.self.view_is c.self.invariant in
     let found : IfSome c.map.result (λ id. HasName c.args.self.now id c.args.name.now) = search rules in
     name_is_key c.args.self.now ok c.args.name.now c.map.result found (returns-clause-none c)

@@ -1,10 +1,9 @@
 use Rattle.std.proofs.Common.{◌≡◌, ◌∙◌, sym, ap, subst, slice_get, slice_set, None}
 use Rattle.graph_core.specs.GraphValue.{IsGraph, flat, node_at, by_names, without_slot}
-use Rattle.graph_core.specs.Inside.{value_of, feeder_list, AreApart}
+use Rattle.graph_core.specs.Inside.{value_of}
 use Rattle.graph_core.proofs.Known.{if_some, if_none}
-use Rattle.graph_core.proofs.WireLists.{AreApart-filter}
 use Rattle.graph_core.proofs.KeepsGraph.{IsGraph-without_slot}
-use Rattle.graph_core.proofs.Changes.{value_of-away, without_slot-dead}
+use Rattle.graph_core.proofs.Changes.{without_slot-dead}
 use Rattle.graph_core.proofs.ByNamesAfter.{by_names-without_slot}
 use Rattle.graph_core.proofs.graph.Graph.remove_node.Goals as goal
 use Rattle.graph_core.proofs.graph.Graph.remove_node.Goals.{After-remove_at}
@@ -13,17 +12,11 @@ emptied : (c : After-remove_at) → c.take_at-node.new.nodes.items ≡ slice_set
 emptied c = c.take_at-node.ensures.emptied ∙ ap (λ i. slice_set c.self.inside.nodes.items i None) c.index.ensures
 
 -- the fields then stand for the graph without the node
-value_is : (c : After-remove_at) → value_of c.take_at-node.new.nodes.items c.remove_at.new.wires.items ≡ without_slot c.args.self.now c.args.id
-value_is c =
-    (λ i. value_of (emptied c i) (c.remove_at.ensures i))
-    ∙ value_of-away c.self.inside.nodes.items c.self.inside.wires.items c.args.id c.self.invariant.1 ∙ ap (λ g. without_slot g c.args.id) c.self.view_is
+value_is : (c : After-remove_at) → value_of c.take_at-node.new.nodes.items c.remove_at.new.self ≡ without_slot c.args.self.now c.args.id
+value_is c = (λ i. value_of (emptied c i) (c.remove_at.ensures i)) ∙ ap (λ g. without_slot g c.args.id) c.self.view_is
 
 pub invariant_of-self : goal.invariant_of-self
-invariant_of-self c =
-    let ok = subst IsGraph c.self.view_is c.self.invariant.0 in (
-      subst IsGraph (sym (value_is c)) (IsGraph-without_slot c.args.self.now ok c.args.id),
-      subst (λ wires. AreApart (feeder_list wires)) (sym c.remove_at.ensures) (AreApart-filter _ c.self.inside.wires.items c.self.invariant.1),
-    )
+invariant_of-self c = subst IsGraph (sym (value_is c)) (IsGraph-without_slot c.args.self.now (subst IsGraph c.self.view_is c.self.invariant) c.args.id)
 
 pub returns-clause-gone : goal.returns-clause-gone
 returns-clause-gone c = value_is c
@@ -33,10 +26,10 @@ node_is c = c.take_at-node.ensures.node ∙ ap (λ i. flat (slice_get c.self.ins
 
 pub returns-clause-names : goal.returns-clause-names
 returns-clause-names c =
-    let ok = subst IsGraph c.self.view_is c.self.invariant.0 in
+    let ok = subst IsGraph c.self.view_is c.self.invariant in
     if_some c.take_at-node.result _ (λ node e. ap by_names (value_is c) ∙ by_names-without_slot c.args.self.now ok c.args.id node (sym (node_is c) ∙ e))
 
 pub returns-clause-none : goal.returns-clause-none
 returns-clause-none c =
-    let ok = subst IsGraph c.self.view_is c.self.invariant.0 in
+    let ok = subst IsGraph c.self.view_is c.self.invariant in
     if_none c.take_at-node.result _ (λ e. value_is c ∙ without_slot-dead c.args.self.now ok c.args.id (sym (node_is c) ∙ e))
