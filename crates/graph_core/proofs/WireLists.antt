@@ -1,10 +1,7 @@
 -- Looking ports up in lists of entries by port.
-use Rattle.std.proofs.Common.{◌≡◌, ◌≢◌, Bool, true, false, cond, not, ◌||◌, List, [], ◌∷◌, filter, Option, Some, None, refl, sym, ap, ◌∙◌, true≢false}
+use Rattle.std.proofs.Common.{◌≡◌, ◌≢◌, ◌<◌, ◌≤◌, ◌-◌, ℕ, zero, suc, arith, IsSome, is_some, Bool, true, false, cond, not, ◌||◌, List, [], ◌∷◌, Option, Some, None, refl, sym, ap, ◌∙◌, true≢false}
 use Rattle.std.specs.FinMap as map
-use Rattle.std.specs.Map.{lookup, keys_of}
-use Rattle.std.specs.List.{AllByRecursion}
-use Rattle.std.specs.List.Sorted.{IsStrictlySortedBy}
-use Rattle.std.proofs.lemmas.Map.Keys.{sorted_head, sorted_tail}
+use Rattle.std.specs.Map.{lookup}
 use Rattle.std.specs.Ordering.{eq_by_cmp, is_eq}
 use Rattle.std.specs.Cmp.{tied_itself, eq_by_cmp_equiv}
 use Rattle.std.specs.declared.cmp.Ordering.{Ordering}
@@ -13,7 +10,7 @@ use Rattle.graph_core.specs.declared.place.NodeId.{NodeId}
 use Rattle.graph_core.specs.declared.place.PortAt.{PortAt}
 use Rattle.graph_core.specs.Place.{place_cmp}
 use Rattle.graph_core.specs.GraphValue.{is_at}
-use Rattle.graph_core.specs.Inside.{AreInverse}
+use Rattle.graph_core.specs.Inside.{Feeders, AreInverse, is_kept}
 use Rattle.graph_core.proofs.Orders.{place_total, place_same}
 use Rattle.graph_core.proofs.Known.{not_None, same_Some}
 
@@ -98,80 +95,69 @@ source_free into from ok source free = at (map.find place_cmp source from) refl
     at None e = e
     at (Some target) e = absurd (free target (ok.back target source e))
 
--- Entries that are kept
+-- A wire cut
 
-none_below : (q : PortAt) (es : Entries) → AllByRecursion (λ k. place_cmp q k ≡ Less) (keys_of es) → map.find place_cmp q es ≡ None
-none_below q [] below = refl
-none_below q (e ∷ es) below = ap (λ b. cond b (Some e.1) (map.find place_cmp q es)) (ap is_eq below.0) ∙ none_below q es below.1
-
--- an entry at another key changes nothing, kept or not
-skipped : (q : PortAt) (e : PortAt × PortAt) (es : Entries) (kept : Bool) → eq_by_cmp place_cmp q e.0 ≡ false → map.find place_cmp q (cond kept (e ∷ es) es) ≡ map.find place_cmp q es
-skipped q e es true other = ap (λ b. cond b (Some e.1) (map.find place_cmp q es)) other
-skipped q e es false other = refl
-
-none_kept : (p : PortAt × PortAt → Bool) (q : PortAt) (es : Entries) → map.find place_cmp q es ≡ None → map.find place_cmp q (filter p es) ≡ None
-none_kept p q [] free = refl
-none_kept p q (e ∷ es) free = at (none_kept p q es) (eq_by_cmp place_cmp q e.0) refl
+turned_cut : (into from into_new from_new : Entries) (target source : PortAt) → Puts target None into into_new → Puts source None from from_new → map.find place_cmp source from ≡ Some target
+    → ((p q : PortAt) → map.find place_cmp p into ≡ Some q → map.find place_cmp q from ≡ Some p) → (p q : PortAt) → map.find place_cmp p into_new ≡ Some q → map.find place_cmp q from_new ≡ Some p
+turned_cut into from into_new from_new target source out_into out_from wired turned p q found = at (eq_by_cmp place_cmp p target) refl
   where
-    at : (map.find place_cmp q es ≡ None → map.find place_cmp q (filter p es) ≡ None) → (b : Bool) → eq_by_cmp place_cmp q e.0 ≡ b → map.find place_cmp q (filter p (e ∷ es)) ≡ None
-    at rest true t = absurd (not_None (ap (λ b. cond b (Some e.1) (map.find place_cmp q es)) (sym t) ∙ free))
-    at rest false t = skipped q e (filter p es) (p e) t ∙ rest (ap (λ b. cond b (Some e.1) (map.find place_cmp q es)) (sym t) ∙ free)
+    at : (b : Bool) → eq_by_cmp place_cmp p target ≡ b → map.find place_cmp q from_new ≡ Some p
+    at true e = absurd (not_None (sym found ∙ out_into p ∙ ap (λ b. cond b None (map.find place_cmp p into)) e))
+    at false e =
+        let was : map.find place_cmp q from ≡ Some p = turned p q (ap (λ b. cond b None (map.find place_cmp p into)) (sym e) ∙ sym (out_into p) ∙ found) in
+        let other : q ≢ source = λ s. true≢false (sym (ap (λ x. eq_by_cmp place_cmp x target) (same_Some (sym was ∙ ap (λ x. map.find place_cmp x from) s ∙ wired)) ∙ here target) ∙ e) in
+        out_from q ∙ ap (λ b. cond b None (map.find place_cmp q from)) (other_place q source other) ∙ was
 
--- what was found at q, where its entry passes
-abbrev pub passed : (PortAt × PortAt → Bool) → PortAt → Option PortAt → Option PortAt
-passed p q None = None
-passed p q (Some v) = cond (p (q, v)) (Some v) None
-
-pub find-filter : (p : PortAt × PortAt → Bool) (q : PortAt) (es : Entries) → IsStrictlySortedBy place_cmp (keys_of es) → map.find place_cmp q (filter p es) ≡ passed p q (map.find place_cmp q es)
-find-filter p q [] sorted = refl
-find-filter p q (e ∷ es) sorted = at (find-filter p q es (sorted_tail place_cmp e.0 (keys_of es) sorted)) (eq_by_cmp place_cmp q e.0) refl
-  where
-    at : map.find place_cmp q (filter p es) ≡ passed p q (map.find place_cmp q es) → (b : Bool) → eq_by_cmp place_cmp q e.0 ≡ b
-        → map.find place_cmp q (cond (p e) (e ∷ filter p es) (filter p es)) ≡ passed p q (map.find place_cmp q (e ∷ es))
-    at more true t =
-        let same = same_place q e.0 t in
-        let found : map.find place_cmp q (e ∷ es) ≡ Some e.1 = ap (λ b. cond b (Some e.1) (map.find place_cmp q es)) t in
-        kept_or_not (p e) ∙ ap (λ k. cond (p (k, e.1)) (Some e.1) None) (sym same) ∙ ap (passed p q) (sym found)
-      where
-        kept_or_not : (kept : Bool) → map.find place_cmp q (cond kept (e ∷ filter p es) (filter p es)) ≡ cond kept (Some e.1) None
-        kept_or_not true = ap (λ b. cond b (Some e.1) (map.find place_cmp q (filter p es))) t
-        kept_or_not false = none_kept p q es (ap (λ k. map.find place_cmp k es) (same_place q e.0 t) ∙ none_below e.0 es (sorted_head place_cmp e.0 (keys_of es) sorted))
-    at more false t = skipped q e (filter p es) (p e) t ∙ more ∙ ap (passed p q) (sym (ap (λ b. cond b (Some e.1) (map.find place_cmp q es)) t))
-
--- neither end of the wire is a port of the node
-abbrev pub is_away : NodeId → PortAt → PortAt → Bool
-is_away id target source = not (is_at id (Some target) || is_at id (Some source))
-
-pub feeders-away : (id : NodeId) (es : Entries) → IsStrictlySortedBy place_cmp (keys_of es)
-    → map.from_entries {R = place_cmp} (filter (λ e. is_away id e.0 e.1) es) ≡ map.retain_keys (map.from_entries es) (λ target. not (is_at id (Some target) || is_at id (map.get (map.from_entries {R = place_cmp} es) target)))
-feeders-away id es sorted =
-    map.same_map place_total place_same _ _ (λ q.
-    map.get-from_entries place_total (filter (λ e. is_away id e.0 e.1) es) q ∙ find-filter (λ e. is_away id e.0 e.1) q es sorted ∙ at q (map.find place_cmp q es)
-    ∙ ap (λ o. cond (not (is_at id (Some q) || is_at id o)) o None) (sym (map.get-from_entries place_total es q))
-    ∙ sym (map.get-retain_keys (map.from_entries es) _ q (λ p tied. ap (λ k. not (is_at id (Some k) || is_at id (map.get (map.from_entries {R = place_cmp} es) k))) (sym (place_same q p tied)))))
-  where
-    at : (q : PortAt) (o : Option PortAt) → passed (λ e. is_away id e.0 e.1) q o ≡ cond (not (is_at id (Some q) || is_at id o)) o None
-    at q None = elim (not (is_at id (Some q) || is_at id None)) as (λ b. ◌≡◌ {A = Option PortAt} None (cond b None None)) [ true ↦ refl | false ↦ refl ]
-    at q (Some v) = refl
-
-passes : (p : PortAt × PortAt → Bool) (q v : PortAt) (o : Option PortAt) → passed p q o ≡ Some v → (p (q, v) ≡ true) × (o ≡ Some v)
-passes p q v None is = absurd (not_None (sym is))
-passes p q v (Some w) is = at (p (q, w)) refl
-  where
-    at : (b : Bool) → p (q, w) ≡ b → (p (q, v) ≡ true) × (Some w ≡ Some v)
-    at true e = let same : w ≡ v = same_Some (ap (λ b. cond b (Some w) None) (sym e) ∙ is) in (ap (λ x. p (q, x)) (sym same) ∙ e, ap Some same)
-    at false e = absurd (not_None (sym is ∙ ap (λ b. cond b (Some w) None) e))
-
-turned_away : (p p_turned : PortAt × PortAt → Bool) → ((t s : PortAt) → p (t, s) ≡ p_turned (s, t)) → (into from : Entries) → IsStrictlySortedBy place_cmp (keys_of into) → IsStrictlySortedBy place_cmp (keys_of from)
-    → ((t s : PortAt) → map.find place_cmp t into ≡ Some s → map.find place_cmp s from ≡ Some t) → (t s : PortAt) → map.find place_cmp t (filter p into) ≡ Some s → map.find place_cmp s (filter p_turned from) ≡ Some t
-turned_away p p_turned alike into from into_sorted from_sorted turned t s found =
-    let was = passes p t s (map.find place_cmp t into) (sym (find-filter p t into into_sorted) ∙ found) in
-    find-filter p_turned s from from_sorted ∙ ap (passed p_turned s) (turned t s was.1) ∙ ap (λ b. cond b (Some t) None) (sym (alike t s) ∙ was.0)
-
-pub AreInverse-away : (id : NodeId) (into from : Entries) → IsStrictlySortedBy place_cmp (keys_of into) → IsStrictlySortedBy place_cmp (keys_of from) → AreInverse into from
-    → AreInverse (filter (λ e. is_away id e.0 e.1) into) (filter (λ e. is_away id e.1 e.0) from)
-AreInverse-away id into from into_sorted from_sorted ok =
+pub AreInverse-cut : (into from into_new from_new : Entries) (target source : PortAt) → Puts target None into into_new → Puts source None from from_new → map.find place_cmp target into ≡ Some source → AreInverse into from → AreInverse into_new from_new
+AreInverse-cut into from into_new from_new target source out_into out_from wired ok =
     record {
-      turned = turned_away (λ e. is_away id e.0 e.1) (λ e. is_away id e.1 e.0) (λ t s. refl) into from into_sorted from_sorted ok.turned;
-      back = λ t s. turned_away (λ e. is_away id e.1 e.0) (λ e. is_away id e.0 e.1) (λ s t. refl) from into from_sorted into_sorted (λ s t. ok.back t s) s t;
+      turned = turned_cut into from into_new from_new target source out_into out_from (ok.turned target source wired) ok.turned;
+      back = λ p q. turned_cut from into from_new into_new source target out_from out_into wired (λ s t. ok.back t s) q p;
     }
+
+pub feeders-cut : (target : PortAt) (into into_new : Entries) → Puts target None into into_new → map.from_entries {R = place_cmp} into_new ≡ map.remove (map.from_entries into) target
+feeders-cut target into into_new out =
+    map.same_map place_total place_same _ _ (λ q.
+    map.get-from_entries place_total into_new q ∙ out q ∙ ap (cond (eq_by_cmp place_cmp q target) None) (sym (map.get-from_entries place_total into q)) ∙ sym (map.get-remove place_total (map.from_entries into) target q))
+
+pub gone_where : (a b : Bool) → b ≡ true → not (a || b) ≡ false
+gone_where true b e = refl
+gone_where false b e = ap not e
+
+-- The wires at a node, cut in turn
+
+abbrev pub without : NodeId → Feeders → Feeders
+without id feeders = map.retain_keys feeders (is_kept id feeders)
+
+get-without : (id : NodeId) (m : Feeders) (q : PortAt) → map.get (without id m) q ≡ cond (is_kept id m q) (map.get m q) None
+get-without id m q = map.get-retain_keys m (is_kept id m) q (λ p tied. ap (is_kept id m) (sym (place_same q p tied)))
+
+either : (b : Bool) → ◌≡◌ {A = Option PortAt} (cond b None None) None
+either true = refl
+either false = refl
+
+pub cut_same : (id : NodeId) (m : Feeders) (target : PortAt) → is_kept id m target ≡ false → without id (map.remove m target) ≡ without id m
+cut_same id m target away = map.same_map place_total place_same _ _ (λ q. get-without id (map.remove m target) q ∙ at q (eq_by_cmp place_cmp q target) refl ∙ sym (get-without id m q))
+  where
+    at : (q : PortAt) (b : Bool) → eq_by_cmp place_cmp q target ≡ b → cond (is_kept id (map.remove m target) q) (map.get (map.remove m target) q) None ≡ cond (is_kept id m q) (map.get m q) None
+    at q true e =
+        let gone : map.get (map.remove m target) q ≡ None = map.get-remove place_total m target q ∙ ap (λ b. cond b None (map.get m q)) e in
+        ap (λ o. cond (not (is_at id (Some q) || is_at id o)) o None) gone ∙ either _ ∙ sym (ap (λ b. cond b (map.get m q) None) (ap (is_kept id m) (same_place q target e) ∙ away))
+    at q false e = ap (λ o. cond (not (is_at id (Some q) || is_at id o)) o None) (map.get-remove place_total m target q ∙ ap (λ b. cond b None (map.get m q)) e)
+
+pub all_kept : (id : NodeId) (m : Feeders) → ((target : PortAt) → IsSome (map.get m target) → is_kept id m target ≡ true) → without id m ≡ m
+all_kept id m kept = map.same_map place_total place_same _ _ (λ q. get-without id m q ∙ at q (map.get m q) refl)
+  where
+    at : (q : PortAt) (o : Option PortAt) → map.get m q ≡ o → cond (is_kept id m q) (map.get m q) None ≡ map.get m q
+    at q None e = ap (λ o. cond (is_kept id m q) o None) e ∙ either _ ∙ sym e
+    at q (Some source) e = ap (λ b. cond b (map.get m q) None) (kept q (ap is_some e))
+
+pub cut_shorter : (m : Feeders) (target : PortAt) → IsSome (map.get m target) → map.len (map.remove m target) < map.len m
+cut_shorter m target there =
+    let less : map.len (map.remove m target) ≡ map.len m - 1 = map.len-remove place_total m target ∙ ap (λ b. cond b (map.len m - 1) (map.len m)) there in
+    let some : 1 ≤ map.len m = at (map.len m) refl in
+    omega arith
+  where
+    at : (n : ℕ) → map.len m ≡ n → 1 ≤ n
+    at zero e = absurd (true≢false (sym there ∙ ap (λ x. is_some (map.get x target)) (map.empty_of_len m e) ∙ ap is_some (map.get-empty place_cmp target)))
+    at (suc n) e = omega arith

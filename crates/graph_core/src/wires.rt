@@ -1,7 +1,10 @@
 //! The wires of a graph, each with its output and its input.
-ghost use Rattle.std.specs.Prelude.{◌≡◌, ◌≢◌, ◌||◌, Some, None, IfSome, IfNone, IfOk, OnOk, OnErr, not};
+ghost use Rattle.std.specs.Prelude.{◌≡◌, ◌≢◌, true, false, Some, None, IsSome, IfSome, IfNone, IfOk, OnOk, OnErr};
+ghost use Rattle.std.specs.BTreeMap.{get};
 ghost use Rattle.std.specs.FinMap as map;
 ghost use Rattle.graph_core.specs.GraphValue.{is_at};
+ghost use Rattle.graph_core.specs.Inside.{is_kept};
+ghost use Rattle.graph_core.specs.Place.{place_cmp};
 
 use crate::place::{NodeId, PortAt};
 use port_types::NoMemory;
@@ -74,12 +77,32 @@ impl Wires {
 
     /// Takes out the wires at the ports of the node. Takes no memory.
     pub(crate) fn remove_at(&mut self, id: NodeId)
-        ensures { self.new ≡ map.retain_keys self.old (λ target. not (is_at id (Some target) || is_at id (map.get self.old target))) }
+        ensures { self.new ≡ map.retain_keys self.old (is_kept id self.old) }
     {
-        self.into
-            .retain(|target, source| stays(id, *target, *source));
-        self.from
-            .retain(|source, target| stays(id, *target, *source));
+        while let Some(target) = self.wire_at(id) {
+            self.cut(target);
+        }
+    }
+
+    /// The input of a wire at a port of the node.
+    fn wire_at(&self, id: NodeId) -> Option<PortAt>
+        ensures some { IfSome result (λ target. (is_kept id self.now target ≡ false) × IsSome (map.get self.now target)) }
+        ensures none { IfNone result ((target : PortAt) → IsSome (map.get self.now target) → is_kept id self.now target ≡ true) }
+    {
+        if let Some((target, _)) = first_at(&self.into, id) {
+            return Some(target);
+        }
+        let (_, target) = first_at(&self.from, id)?;
+        Some(target)
+    }
+
+    /// Takes out the wire into this input.
+    fn cut(&mut self, target: PortAt)
+        ensures { self.new ≡ map.remove self.old target }
+    {
+        if let Some(source) = self.into.remove(&target) {
+            self.from.remove(&source);
+        }
     }
 
     /// The same wires again. The only error is want of memory.
@@ -92,9 +115,15 @@ impl Wires {
     }
 }
 
-/// Whether neither end of the wire is a port of the node.
-fn stays(id: NodeId, target: PortAt, source: PortAt) -> bool
-    ensures { result ≡ not (is_at id (Some target) || is_at id (Some source)) }
+/// The first port of the node among the keys, with its value.
+fn first_at(ends: &BTreeMap<PortAt, PortAt>, id: NodeId) -> Option<(PortAt, PortAt)>
+    ensures some { IfSome result (λ end. (is_at id (Some end.0) ≡ true) × (get place_cmp ends.now end.0 ≡ Some end.1)) }
+    ensures none { IfNone result ((port : PortAt) → is_at id (Some port) ≡ true → get place_cmp ends.now port ≡ None) }
 {
-    target.node != id && source.node != id
+    let (port, other) = ends.range(PortAt { node: id, port: 0 }..).next()?;
+    if port.node == id {
+        Some((*port, *other))
+    } else {
+        None
+    }
 }

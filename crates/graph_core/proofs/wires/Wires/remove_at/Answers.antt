@@ -1,25 +1,25 @@
-use Rattle.std.proofs.Common.{◌≡◌, ◌∙◌, Some, ◌||◌, not, filter, rules, sym, ap, subst}
+use Rattle.std.proofs.Common.{◌≡◌, ◌∙◌, ◌<◌, true, false, IsSome, rules, sym, ap, subst}
 use Rattle.std.specs.FinMap as map
-use Rattle.std.proofs.lemmas.Map.Made.{filter_same_pairs}
-use Rattle.graph_core.specs.GraphValue.{is_at}
-use Rattle.graph_core.specs.Inside.{AreInverse}
-use Rattle.graph_core.proofs.WireLists.{is_away, feeders-away, AreInverse-away}
+use Rattle.graph_core.specs.declared.place.PortAt.{PortAt}
+use Rattle.graph_core.specs.Inside.{is_kept}
+use Rattle.graph_core.proofs.WireLists.{without, cut_same, cut_shorter, all_kept}
 use Rattle.graph_core.proofs.wires.Wires.remove_at.Goals as goal
-use Rattle.graph_core.proofs.wires.Wires.remove_at.Goals.{After-retain-2}
+use Rattle.graph_core.proofs.wires.Wires.remove_at.Goals.{In-Some}
 
-into_kept : (c : After-retain-2) → c.retain.new.self.entries ≡ filter (λ e. is_away c.args.id e.0 e.1) c.self.inside.into.entries
-into_kept c = filter_same_pairs _ _ _ (λ k v b w f' t. search rules) _ _ c.retain.ensures.filtered
+found : (c : In-Some) → (is_kept c.args.id c.loop-target.self c.in-Some.target ≡ false) × IsSome (map.get c.loop-target.self c.in-Some.target)
+found c = search rules
 
-from_kept : (c : After-retain-2) → c.retain-2.new.self.entries ≡ filter (λ e. is_away c.args.id e.1 e.0) c.self.inside.from.entries
-from_kept c = filter_same_pairs _ _ _ (λ k v b w f' t. search rules) _ _ c.retain-2.ensures.filtered
+pub loop-target-smaller : goal.loop-target-smaller
+loop-target-smaller c =
+    let there = (found (goal.at.loop-target-smaller c).In-Some).1 in
+    subst (λ m. map.len m < map.len c.loop-target.self) (sym c.cut.ensures) (cut_shorter c.loop-target.self c.in-Some.target there)
 
-pub invariant_of-self : goal.invariant_of-self
-invariant_of-self c =
-    subst (AreInverse c.retain.new.self.entries) (sym (from_kept c))
-    (subst (λ es. AreInverse es (filter (λ e. is_away c.args.id e.1 e.0) c.self.inside.from.entries)) (sym (into_kept c))
-    (AreInverse-away c.args.id c.self.inside.into.entries c.self.inside.from.entries c.retain.ensures.was_ordered c.retain-2.ensures.was_ordered c.self.invariant))
+pub loop-target-preserved : goal.loop-target-preserved
+loop-target-preserved c =
+    let away = (found (goal.at.loop-target-preserved c).In-Some).0 in
+    ap (without c.args.id) c.cut.ensures ∙ cut_same c.args.id c.loop-target.self c.in-Some.target away ∙ c.loop-target.invariant
 
 pub returns : goal.returns
 returns c =
-    ap map.from_entries (into_kept c) ∙ feeders-away c.args.id c.self.inside.into.entries c.retain.ensures.was_ordered
-    ∙ ap (λ m. map.retain_keys m (λ target. not (is_at c.args.id (Some target) || is_at c.args.id (map.get m target)))) c.self.view_is
+    let kept : (target : PortAt) → IsSome (map.get c.loop-target.self target) → is_kept c.args.id c.loop-target.self target ≡ true = search rules in
+    sym (all_kept c.args.id c.loop-target.self kept) ∙ c.loop-target.invariant
