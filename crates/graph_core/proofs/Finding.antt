@@ -1,24 +1,16 @@
 -- What looking up in a graph answers, by slots and by names.
-use Rattle.std.proofs.Common.{◌≡◌, false, List, Option, Some, None, IsSome, IfSome, IfNone, is_some, refl, sym, ap, subst, true≢false}
+use Rattle.std.proofs.Common.{◌≡◌, false, Option, Some, None, IsSome, IfSome, IfNone, is_some, refl, sym, ap, subst, true≢false}
 use Rattle.std.specs.Option.{option_map}
 use Rattle.std.specs.FinMap as map
 use Rattle.port_types.specs.declared.side.Side.{Side}
 use Rattle.graph_core.specs.declared.node.Node.{Node}
 use Rattle.graph_core.specs.declared.place.NodeId.{NodeId}
 use Rattle.graph_core.specs.declared.place.PortAt.{PortAt}
-use Rattle.graph_core.specs.declared.wires.Wire.{Wire}
-use Rattle.graph_core.specs.Place.{place_cmp}
 use Rattle.graph_core.specs.Name.{Name}
 use Rattle.graph_core.specs.Kind.{Shape}
 use Rattle.graph_core.specs.Node.{Body, body_of}
 use Rattle.graph_core.specs.GraphValue.{GraphValue, IsGraph, HasName, node_at, shape_of, shape_at, by_names, port_named}
-use Rattle.graph_core.specs.Inside.{value_of, feeder_list}
-use Rattle.graph_core.proofs.Orders.{place_total}
 use Rattle.graph_core.proofs.ByNames.{node_found, node_behind, wire_found, wire_none}
-
--- the list of wires answers as the map of feeders
-pub lookup_is : (slots : List (Option Node)) (wires : List Wire) (target : PortAt) → map.find place_cmp target (feeder_list wires) ≡ map.get (value_of slots wires).feeders target
-lookup_is slots wires target = sym (map.get-from_entries place_total (feeder_list wires) target)
 
 -- a name is a key exactly where a live node has it
 pub name_is_key : (g : GraphValue) → IsGraph g → (name : Name) (o : Option NodeId) → IfSome o (λ id. HasName g id name) → IfNone o ((id : NodeId) → ¬ (HasName g id name)) → is_some o ≡ map.contains_key (by_names g).nodes name

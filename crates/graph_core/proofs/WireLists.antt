@@ -1,20 +1,18 @@
--- Looking wires up in a list of them.
-use Rattle.std.proofs.Common.{◌≡◌, ◌≢◌, ℕ, zero, suc, ◌<◌, Bool, true, false, cond, not, ◌||◌, List, [], ◌∷◌, ◌++◌, length, get_or, filter, Option, Some, None, refl, sym, ap, subst, ◌∙◌, arith, true≢false}
-use Rattle.std.proofs.lemmas.List.{map-append}
+-- Looking ports up in lists of entries by port.
+use Rattle.std.proofs.Common.{◌≡◌, ◌≢◌, ◌<◌, ◌≤◌, ◌-◌, ℕ, zero, suc, arith, IsSome, is_some, Bool, true, false, cond, not, ◌||◌, List, [], ◌∷◌, Option, Some, None, refl, sym, ap, ◌∙◌, true≢false}
 use Rattle.std.specs.FinMap as map
-use Rattle.std.specs.FinMap.Entries.{find-append}
+use Rattle.std.specs.Map.{lookup}
 use Rattle.std.specs.Ordering.{eq_by_cmp, is_eq}
-use Rattle.std.specs.Cmp.{tied_itself}
+use Rattle.std.specs.Cmp.{tied_itself, eq_by_cmp_equiv}
 use Rattle.std.specs.declared.cmp.Ordering.{Ordering}
 use Rattle.std.specs.declared.cmp.Ordering.TheVariants.{Less, Equal, Greater}
 use Rattle.graph_core.specs.declared.place.NodeId.{NodeId}
 use Rattle.graph_core.specs.declared.place.PortAt.{PortAt}
-use Rattle.graph_core.specs.declared.wires.Wire.{Wire}
 use Rattle.graph_core.specs.Place.{place_cmp}
 use Rattle.graph_core.specs.GraphValue.{is_at}
-use Rattle.graph_core.specs.Inside.{feeder_list, stands_at, AreApart}
+use Rattle.graph_core.specs.Inside.{Feeders, AreInverse, is_kept}
 use Rattle.graph_core.proofs.Orders.{place_total, place_same}
-use Rattle.graph_core.proofs.Known.{not_None}
+use Rattle.graph_core.proofs.Known.{not_None, same_Some}
 
 -- two places are one, or they are not, as the test says
 pub here : (p : PortAt) → eq_by_cmp place_cmp p p ≡ true
@@ -35,87 +33,131 @@ not_true false h = refl
 pub other_place : (p q : PortAt) → p ≢ q → eq_by_cmp place_cmp p q ≡ false
 other_place p q other = not_true _ (λ e. other (same_place p q e))
 
--- the first wire of a list is the one looked for, or the rest is searched
-pub find_first : (target : PortAt) (wire : Wire) (wires : List Wire) → wire.target ≡ target → map.find place_cmp target (feeder_list (wire ∷ wires)) ≡ Some wire.source
-find_first target wire wires e = ap (λ b. cond b (Some wire.source) (map.find place_cmp target (feeder_list wires))) (ap (eq_by_cmp place_cmp target) e ∙ here target)
+abbrev pub Entries : Type 0
+Entries = List (PortAt × PortAt)
 
-pub find_later : (target : PortAt) (wire : Wire) (wires : List Wire) → target ≢ wire.target → map.find place_cmp target (feeder_list (wire ∷ wires)) ≡ map.find place_cmp target (feeder_list wires)
-find_later target wire wires other = ap (λ b. cond b (Some wire.source) (map.find place_cmp target (feeder_list wires))) (other_place target wire.target other)
+-- a tree answers as a scan of its entries
+pub lookup_is_find : (q : PortAt) (es : Entries) → lookup (λ k. is_eq (place_cmp q k)) es ≡ map.find place_cmp q es
+lookup_is_find q [] = refl
+lookup_is_find q (e ∷ es) = ap (cond (is_eq (place_cmp q e.0)) (Some e.1)) (lookup_is_find q es)
 
--- where no input stands twice, each wire is found
-pub find_each : (wires : List Wire) (i : ℕ) (d : Wire) → AreApart (feeder_list wires) → i < length wires → map.find place_cmp (get_or wires i d).target (feeder_list wires) ≡ Some (get_or wires i d).source
-find_each [] i d apart h = absurd (omega arith)
-find_each (wire ∷ wires) zero d apart h = find_first wire.target wire wires refl
-find_each (wire ∷ wires) (suc i) d apart h =
-    let rest : map.find place_cmp (get_or wires i d).target (feeder_list wires) ≡ Some (get_or wires i d).source = find_each wires i d apart.1 (omega arith) in
-    find_later _ wire wires (λ e. absurd (no_clash _ (get_or wires i d).source (ap (λ p. map.find place_cmp p (feeder_list wires)) e ∙ apart.0) rest)) ∙ rest
+-- An entry put in, and taken out
+
+-- new has v at k, and else what old has
+abbrev pub Puts : PortAt → Option PortAt → Entries → Entries → Type 0
+Puts k v old new = (q : PortAt) → map.find place_cmp q new ≡ cond (eq_by_cmp place_cmp q k) v (map.find place_cmp q old)
+
+pub puts_by_tree : (k : PortAt) (v : Option PortAt) (old new : Entries) → ((q : PortAt) → lookup (λ x. is_eq (place_cmp q x)) new ≡ cond (is_eq (place_cmp k q)) v (lookup (λ x. is_eq (place_cmp q x)) old)) → Puts k v old new
+puts_by_tree k v old new is q =
+    sym (lookup_is_find q new) ∙ is q ∙ ap (λ b. cond b v (lookup (λ x. is_eq (place_cmp q x)) old)) ((eq_by_cmp_equiv place_total).symm k q)
+    ∙ ap (cond (eq_by_cmp place_cmp q k) v) (lookup_is_find q old)
+
+repeated : (b : Bool) (v w o : Option PortAt) → cond b v (cond b w o) ≡ cond b v o
+repeated true v w o = refl
+repeated false v w o = refl
+
+-- an entry at a new key, put in and taken out again
+pub put_back : (k : PortAt) (v : Option PortAt) (old new back : Entries) → Puts k v old new → Puts k None new back → map.find place_cmp k old ≡ None → (q : PortAt) → map.find place_cmp q back ≡ map.find place_cmp q old
+put_back k v old new back put out free q = out q ∙ ap (cond (eq_by_cmp place_cmp q k) None) (put q) ∙ repeated (eq_by_cmp place_cmp q k) None v _ ∙ at (eq_by_cmp place_cmp q k) refl
   where
-    no_clash : (o : Option PortAt) (p : PortAt) → o ≡ None → o ≡ Some p → ⊥
-    no_clash o p a b = let e : ◌≡◌ {A = Option PortAt} None (Some p) = sym a ∙ b in cc
+    at : (b : Bool) → eq_by_cmp place_cmp q k ≡ b → cond b None (map.find place_cmp q old) ≡ map.find place_cmp q old
+    at true e = sym free ∙ ap (λ p. map.find place_cmp p old) (sym (same_place q k e))
+    at false e = refl
 
--- A wire pushed behind, and wires taken out
-
-pub feeder_list-push : (wires : List Wire) (wire : Wire) → feeder_list (wires ++ wire ∷ []) ≡ feeder_list wires ++ (wire.target, wire.source) ∷ []
-feeder_list-push wires wire = map-append (λ w. (w.target, w.source)) wires (wire ∷ [])
-
-pub AreApart-push : (es : List (PortAt × PortAt)) (target source : PortAt) → AreApart es → map.find place_cmp target es ≡ None → AreApart (es ++ (target, source) ∷ [])
-AreApart-push [] target source apart free = (refl, tt)
-AreApart-push (entry ∷ es) target source apart free = at (AreApart-push es target source apart.1) (eq_by_cmp place_cmp target entry.0) refl
+turned_put : (into from into_new from_new : Entries) (target source : PortAt) → Puts target (Some source) into into_new → Puts source (Some target) from from_new → map.find place_cmp source from ≡ None
+    → ((p q : PortAt) → map.find place_cmp p into ≡ Some q → map.find place_cmp q from ≡ Some p) → (p q : PortAt) → map.find place_cmp p into_new ≡ Some q → map.find place_cmp q from_new ≡ Some p
+turned_put into from into_new from_new target source put_into put_from free turned p q found = at (eq_by_cmp place_cmp p target) refl
   where
-    at : (map.find place_cmp target es ≡ None → AreApart (es ++ (target, source) ∷ [])) → (b : Bool) → eq_by_cmp place_cmp target entry.0 ≡ b → AreApart ((entry ∷ es) ++ (target, source) ∷ [])
-    at more true e = absurd (not_None (ap (λ b. cond b (Some entry.1) (map.find place_cmp target es)) (sym e) ∙ free))
-    at more false e =
-        let rest : map.find place_cmp target es ≡ None = ap (λ b. cond b (Some entry.1) (map.find place_cmp target es)) (sym e) ∙ free in
-        let other : eq_by_cmp place_cmp entry.0 target ≡ false = other_place entry.0 target (λ same. true≢false (sym (here target) ∙ ap (eq_by_cmp place_cmp target) (sym same) ∙ e)) in
-        (find-append place_cmp place_total es target source entry.0 rest ∙ ap (λ b. cond b (Some source) (map.find place_cmp entry.0 es)) other ∙ apart.0, more rest)
+    at : (b : Bool) → eq_by_cmp place_cmp p target ≡ b → map.find place_cmp q from_new ≡ Some p
+    at true e =
+        let is_source : source ≡ q = same_Some (ap (λ b. cond b (Some source) (map.find place_cmp p into)) (sym e) ∙ sym (put_into p) ∙ found) in
+        put_from q ∙ ap (λ b. cond b (Some target) (map.find place_cmp q from)) (ap (λ s. eq_by_cmp place_cmp s source) (sym is_source) ∙ here source) ∙ ap Some (sym (same_place p target e))
+    at false e =
+        let was : map.find place_cmp q from ≡ Some p = turned p q (ap (λ b. cond b (Some source) (map.find place_cmp p into)) (sym e) ∙ sym (put_into p) ∙ found) in
+        put_from q ∙ ap (λ b. cond b (Some target) (map.find place_cmp q from)) (other_place q source (λ s. not_None (sym was ∙ ap (λ x. map.find place_cmp x from) s ∙ free))) ∙ was
 
--- a wire into another input changes nothing, kept or not
-skipped : (target : PortAt) (wire : Wire) (wires : List Wire) (kept : Bool) → eq_by_cmp place_cmp target wire.target ≡ false → map.find place_cmp target (feeder_list (cond kept (wire ∷ wires) wires)) ≡ map.find place_cmp target (feeder_list wires)
-skipped target wire wires true e = ap (λ b. cond b (Some wire.source) (map.find place_cmp target (feeder_list wires))) e
-skipped target wire wires false e = refl
+pub AreInverse-put : (into from into_new from_new : Entries) (target source : PortAt) → Puts target (Some source) into into_new → Puts source (Some target) from from_new → map.find place_cmp target into ≡ None → map.find place_cmp source from ≡ None → AreInverse into from → AreInverse into_new from_new
+AreInverse-put into from into_new from_new target source put_into put_from target_free source_free ok =
+    record {
+      turned = turned_put into from into_new from_new target source put_into put_from source_free ok.turned;
+      back = λ p q. turned_put from into from_new into_new source target put_from put_into target_free (λ s t. ok.back t s) q p;
+    }
 
-pub find_none-filter : (p : Wire → Bool) (target : PortAt) (wires : List Wire) → map.find place_cmp target (feeder_list wires) ≡ None → map.find place_cmp target (feeder_list (filter p wires)) ≡ None
-find_none-filter p target [] free = refl
-find_none-filter p target (wire ∷ wires) free = at (find_none-filter p target wires) (eq_by_cmp place_cmp target wire.target) refl
+pub AreInverse-same : (into from from_new : Entries) → ((q : PortAt) → map.find place_cmp q from_new ≡ map.find place_cmp q from) → AreInverse into from → AreInverse into from_new
+AreInverse-same into from from_new same ok =
+    record { turned = λ t s found. same s ∙ ok.turned t s found; back = λ t s found. ok.back t s (sym (same s) ∙ found) }
+
+-- an output that feeds no input is in no entry
+pub source_free : (into from : Entries) → AreInverse into from → (source : PortAt) → ((target : PortAt) → map.find place_cmp target into ≢ Some source) → map.find place_cmp source from ≡ None
+source_free into from ok source free = at (map.find place_cmp source from) refl
   where
-    at : (map.find place_cmp target (feeder_list wires) ≡ None → map.find place_cmp target (feeder_list (filter p wires)) ≡ None) → (b : Bool) → eq_by_cmp place_cmp target wire.target ≡ b
-        → map.find place_cmp target (feeder_list (filter p (wire ∷ wires))) ≡ None
-    at rest true e = absurd (not_None (ap (λ b. cond b (Some wire.source) (map.find place_cmp target (feeder_list wires))) (sym e) ∙ free))
-    at rest false e = skipped target wire (filter p wires) (p wire) e ∙ rest (ap (λ b. cond b (Some wire.source) (map.find place_cmp target (feeder_list wires))) (sym e) ∙ free)
+    at : (o : Option PortAt) → map.find place_cmp source from ≡ o → map.find place_cmp source from ≡ None
+    at None e = e
+    at (Some target) e = absurd (free target (ok.back target source e))
 
-pub AreApart-filter : (p : Wire → Bool) (wires : List Wire) → AreApart (feeder_list wires) → AreApart (feeder_list (filter p wires))
-AreApart-filter p [] apart = tt
-AreApart-filter p (wire ∷ wires) apart =
-    let rest = AreApart-filter p wires apart.1 in
-    elim (p wire) as (λ b. AreApart (feeder_list (cond b (wire ∷ filter p wires) (filter p wires)))) [
-      | true ↦ (find_none-filter p wire.target wires apart.0, rest)
-      | false ↦ rest
-    ]
+-- A wire cut
 
--- whether a wire into this input stays, where this is what feeds it
-abbrev pub stays_if : NodeId → PortAt → Option PortAt → Bool
-stays_if id target source = not (is_at id (Some target) || is_at id source)
-
--- the wires at other nodes
-abbrev pub away : NodeId → List Wire → List Wire
-away id wires = filter (λ wire. not (stands_at id wire)) wires
-
-pub find-filter : (id : NodeId) (target : PortAt) (wires : List Wire) → AreApart (feeder_list wires)
-    → map.find place_cmp target (feeder_list (away id wires)) ≡ cond (stays_if id target (map.find place_cmp target (feeder_list wires))) (map.find place_cmp target (feeder_list wires)) None
-find-filter id target [] apart = elim (stays_if id target None) as (λ b. ◌≡◌ {A = Option PortAt} None (cond b None None)) [ true ↦ refl | false ↦ refl ]
-find-filter id target (wire ∷ wires) apart = at (find-filter id target wires apart.1) (eq_by_cmp place_cmp target wire.target) refl
+turned_cut : (into from into_new from_new : Entries) (target source : PortAt) → Puts target None into into_new → Puts source None from from_new → map.find place_cmp source from ≡ Some target
+    → ((p q : PortAt) → map.find place_cmp p into ≡ Some q → map.find place_cmp q from ≡ Some p) → (p q : PortAt) → map.find place_cmp p into_new ≡ Some q → map.find place_cmp q from_new ≡ Some p
+turned_cut into from into_new from_new target source out_into out_from wired turned p q found = at (eq_by_cmp place_cmp p target) refl
   where
-    at : map.find place_cmp target (feeder_list (away id wires)) ≡ cond (stays_if id target (map.find place_cmp target (feeder_list wires))) (map.find place_cmp target (feeder_list wires)) None
-        → (b : Bool) → eq_by_cmp place_cmp target wire.target ≡ b
-        → map.find place_cmp target (feeder_list (cond (not (stands_at id wire)) (wire ∷ away id wires) (away id wires))) ≡ cond (stays_if id target (map.find place_cmp target (feeder_list (wire ∷ wires)))) (map.find place_cmp target (feeder_list (wire ∷ wires))) None
-    at more true e =
-        let same = same_place target wire.target e in
-        let found : map.find place_cmp target (feeder_list (wire ∷ wires)) ≡ Some wire.source = find_first target wire wires (sym same) in
-        kept_or_not (not (stands_at id wire)) (sym same) ∙ ap (λ q. cond (stays_if id q (Some wire.source)) (Some wire.source) None) (sym same) ∙ ap (λ o. cond (stays_if id target o) o None) (sym found)
-      where
-        kept_or_not : (k : Bool) → wire.target ≡ target → map.find place_cmp target (feeder_list (cond k (wire ∷ away id wires) (away id wires))) ≡ cond k (Some wire.source) None
-        kept_or_not true same = find_first target wire (away id wires) same
-        kept_or_not false same = subst (λ q. map.find place_cmp q (feeder_list (away id wires)) ≡ None) same (find_none-filter (λ w. not (stands_at id w)) wire.target wires apart.0)
-    at more false e =
-        let later : map.find place_cmp target (feeder_list (wire ∷ wires)) ≡ map.find place_cmp target (feeder_list wires) = ap (λ b. cond b (Some wire.source) (map.find place_cmp target (feeder_list wires))) e in
-        skipped target wire (away id wires) (not (stands_at id wire)) e ∙ more ∙ ap (λ o. cond (stays_if id target o) o None) (sym later)
+    at : (b : Bool) → eq_by_cmp place_cmp p target ≡ b → map.find place_cmp q from_new ≡ Some p
+    at true e = absurd (not_None (sym found ∙ out_into p ∙ ap (λ b. cond b None (map.find place_cmp p into)) e))
+    at false e =
+        let was : map.find place_cmp q from ≡ Some p = turned p q (ap (λ b. cond b None (map.find place_cmp p into)) (sym e) ∙ sym (out_into p) ∙ found) in
+        let other : q ≢ source = λ s. true≢false (sym (ap (λ x. eq_by_cmp place_cmp x target) (same_Some (sym was ∙ ap (λ x. map.find place_cmp x from) s ∙ wired)) ∙ here target) ∙ e) in
+        out_from q ∙ ap (λ b. cond b None (map.find place_cmp q from)) (other_place q source other) ∙ was
+
+pub AreInverse-cut : (into from into_new from_new : Entries) (target source : PortAt) → Puts target None into into_new → Puts source None from from_new → map.find place_cmp target into ≡ Some source → AreInverse into from → AreInverse into_new from_new
+AreInverse-cut into from into_new from_new target source out_into out_from wired ok =
+    record {
+      turned = turned_cut into from into_new from_new target source out_into out_from (ok.turned target source wired) ok.turned;
+      back = λ p q. turned_cut from into from_new into_new source target out_from out_into wired (λ s t. ok.back t s) q p;
+    }
+
+pub feeders-cut : (target : PortAt) (into into_new : Entries) → Puts target None into into_new → map.from_entries {R = place_cmp} into_new ≡ map.remove (map.from_entries into) target
+feeders-cut target into into_new out =
+    map.same_map place_total place_same _ _ (λ q.
+    map.get-from_entries place_total into_new q ∙ out q ∙ ap (cond (eq_by_cmp place_cmp q target) None) (sym (map.get-from_entries place_total into q)) ∙ sym (map.get-remove place_total (map.from_entries into) target q))
+
+pub gone_where : (a b : Bool) → b ≡ true → not (a || b) ≡ false
+gone_where true b e = refl
+gone_where false b e = ap not e
+
+-- The wires at a node, cut in turn
+
+abbrev pub without : NodeId → Feeders → Feeders
+without id feeders = map.retain_keys feeders (is_kept id feeders)
+
+get-without : (id : NodeId) (m : Feeders) (q : PortAt) → map.get (without id m) q ≡ cond (is_kept id m q) (map.get m q) None
+get-without id m q = map.get-retain_keys m (is_kept id m) q (λ p tied. ap (is_kept id m) (sym (place_same q p tied)))
+
+either : (b : Bool) → ◌≡◌ {A = Option PortAt} (cond b None None) None
+either true = refl
+either false = refl
+
+pub cut_same : (id : NodeId) (m : Feeders) (target : PortAt) → is_kept id m target ≡ false → without id (map.remove m target) ≡ without id m
+cut_same id m target away = map.same_map place_total place_same _ _ (λ q. get-without id (map.remove m target) q ∙ at q (eq_by_cmp place_cmp q target) refl ∙ sym (get-without id m q))
+  where
+    at : (q : PortAt) (b : Bool) → eq_by_cmp place_cmp q target ≡ b → cond (is_kept id (map.remove m target) q) (map.get (map.remove m target) q) None ≡ cond (is_kept id m q) (map.get m q) None
+    at q true e =
+        let gone : map.get (map.remove m target) q ≡ None = map.get-remove place_total m target q ∙ ap (λ b. cond b None (map.get m q)) e in
+        ap (λ o. cond (not (is_at id (Some q) || is_at id o)) o None) gone ∙ either _ ∙ sym (ap (λ b. cond b (map.get m q) None) (ap (is_kept id m) (same_place q target e) ∙ away))
+    at q false e = ap (λ o. cond (not (is_at id (Some q) || is_at id o)) o None) (map.get-remove place_total m target q ∙ ap (λ b. cond b None (map.get m q)) e)
+
+pub all_kept : (id : NodeId) (m : Feeders) → ((target : PortAt) → IsSome (map.get m target) → is_kept id m target ≡ true) → without id m ≡ m
+all_kept id m kept = map.same_map place_total place_same _ _ (λ q. get-without id m q ∙ at q (map.get m q) refl)
+  where
+    at : (q : PortAt) (o : Option PortAt) → map.get m q ≡ o → cond (is_kept id m q) (map.get m q) None ≡ map.get m q
+    at q None e = ap (λ o. cond (is_kept id m q) o None) e ∙ either _ ∙ sym e
+    at q (Some source) e = ap (λ b. cond b (map.get m q) None) (kept q (ap is_some e))
+
+pub cut_shorter : (m : Feeders) (target : PortAt) → IsSome (map.get m target) → map.len (map.remove m target) < map.len m
+cut_shorter m target there =
+    let less : map.len (map.remove m target) ≡ map.len m - 1 = map.len-remove place_total m target ∙ ap (λ b. cond b (map.len m - 1) (map.len m)) there in
+    let some : 1 ≤ map.len m = at (map.len m) refl in
+    omega arith
+  where
+    at : (n : ℕ) → map.len m ≡ n → 1 ≤ n
+    at zero e = absurd (true≢false (sym there ∙ ap (λ x. is_some (map.get x target)) (map.empty_of_len m e) ∙ ap is_some (map.get-empty place_cmp target)))
+    at (suc n) e = omega arith

@@ -17,7 +17,7 @@ use crate::node::Node;
 use crate::place::{NodeId, PortAt};
 use crate::port_shapes::{has_port, have_one_shape};
 use crate::slots::{ids_by_name, node_in, push_named, take_named};
-use crate::wires::{Wire, remove_at, source_in, target_in};
+use crate::wires::Wires;
 use port_types::{NoMemory, Side};
 use std::alloc::Global;
 use std::marker::Model;
@@ -56,20 +56,20 @@ pub struct PortOpen {
 pub struct Graph {
     nodes: Vec<Option<Node>>,
     names: Names,
-    wires: Vec<Wire>,
+    wires: Wires,
 }
 
 impl Model for Graph {
     ghost use Rattle.graph_core.specs.GraphValue.{GraphValue, IsGraph};
-    ghost use Rattle.graph_core.specs.Inside.{graph_code, value_of, feeder_list, AreApart, AreListed};
+    ghost use Rattle.graph_core.specs.Inside.{graph_code, value_of, AreListed};
 
     ghost Value = { GraphValue };
 
     ghost coded = { graph_code };
 
-    ghost view = { λ g. value_of g.nodes.items g.wires.items };
+    ghost view = { λ g. value_of g.nodes.items g.wires };
 
-    ghost invariant = { λ g. IsGraph (value_of g.nodes.items g.wires.items) × AreApart (feeder_list g.wires.items) × AreListed g.nodes.items g.names };
+    ghost invariant = { λ g. IsGraph (value_of g.nodes.items g.wires) × AreListed g.nodes.items g.names };
 }
 
 impl Graph {
@@ -82,7 +82,7 @@ impl Graph {
         Graph {
             nodes: Vec::new(alloc),
             names: Names::new(alloc),
-            wires: Vec::new(alloc),
+            wires: Wires::new(alloc),
         }
     }
 
@@ -123,7 +123,7 @@ impl Graph {
     {
         let _ = &self.wires;
         self.try_wire(source, target)?;
-        if self.wires.push(Wire { source, target }).is_err() {
+        if self.wires.add(source, target).is_err() {
             return Err(AddWire::NoMemory);
         }
         Ok(())
@@ -168,7 +168,7 @@ impl Graph {
         ensures none { IfNone result (self.new ≡ self.old) }
     {
         let node = take_named(&mut self.nodes, &mut self.names, id);
-        remove_at(&mut self.wires, id);
+        self.wires.remove_at(id);
         node
     }
 
@@ -197,7 +197,7 @@ impl Graph {
         ensures live { IfSome result (λ source. IsSome (node_at self.now source.node)) }
         ensures names { IsSome (node_at self.now target.node) → option_map (port_named self.now) result ≡ map_of.get (by_names self.now).feeders (port_named self.now target) }
     {
-        source_in(&self.wires, target)
+        self.wires.source_of(target)
     }
 
     /// The input that this output feeds. `None` exactly where the output stands on no wire.
@@ -209,7 +209,7 @@ impl Graph {
         ensures none_by_name { IsSome (node_at self.now source.node)
             → IfNone result ((target : Port) → map_of.get (by_names self.now).feeders target ≢ Some (port_named self.now source)) }
     {
-        target_in(&self.wires, source)
+        self.wires.target_of(source)
     }
 
     /// How many slots for nodes there are: the index of each live node is below it. A new graph has none. Takes no memory.
@@ -236,7 +236,7 @@ impl Graph {
     {
         let nodes = copy_slots(alloc, &self.nodes)?;
         let names = self.names.copy()?;
-        let wires = Vec::from_slice(alloc, &self.wires)?;
+        let wires = self.wires.copy()?;
         Ok(Graph {
             nodes,
             names,

@@ -19,17 +19,17 @@ fresh c = subst (λ name. (id : NodeId) → ¬ (HasName c.args.self.now id name)
 pub push_named-requires-clause-fresh : goal.push_named-requires-clause-fresh
 push_named-requires-clause-fresh c =
     let free = subst (λ g. (id : NodeId) → ¬ (HasName g id c.args.node.name)) (sym c.self.view_is) (fresh (goal.at.push_named-requires-clause-fresh c).Else-is_some) in
-    none_under c.self.inside.nodes.items c.self.inside.names c.args.node.name c.self.invariant.2 free
+    none_under c.self.inside.nodes.items c.self.inside.names c.args.node.name c.self.invariant.1 free
 
 -- the fields then stand for the graph with the node
-value_is : (c : In-Ok) → value_of c.push_named.new.nodes.items c.self.inside.wires.items ≡ with_slot c.args.self.now c.args.node
-value_is c = ap (λ slots. value_of slots c.self.inside.wires.items) c.in-Ok.ensures.ok ∙ ap (λ g. with_slot g c.args.node) c.self.view_is
+value_is : (c : In-Ok) → value_of c.push_named.new.nodes.items c.self.inside.wires ≡ with_slot c.args.self.now c.args.node
+value_is c = ap (λ slots. value_of slots c.self.inside.wires) c.in-Ok.ensures.ok ∙ ap (λ g. with_slot g c.args.node) c.self.view_is
 
 pub invariant_of-self-2 : goal.invariant_of-self-2
 invariant_of-self-2 c =
     let ok = subst IsGraph c.self.view_is c.self.invariant.0 in
     let added = IsGraph-with_slot c.args.self.now ok c.args.node c.requires (fresh (goal.at.invariant_of-self-2 c).Else-is_some) in
-    (subst IsGraph (sym (value_is c)) added, c.self.invariant.1, c.push_named.ensures.listed)
+    (subst IsGraph (sym (value_is c)) added, c.push_named.ensures.listed)
 
 pub returns-clause-names : goal.returns-clause-names
 returns-clause-names c =

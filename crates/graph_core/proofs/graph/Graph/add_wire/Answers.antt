@@ -1,13 +1,9 @@
-use Rattle.std.proofs.Common.{◌≡◌, ◌∙◌, ◌∷◌, [], ◌++◌, None, rules, sym, ap, subst}
+use Rattle.std.proofs.Common.{◌≡◌, ◌∙◌, rules, sym, ap, subst}
 use Rattle.std.specs.FinMap as map
-use Rattle.graph_core.specs.Place.{place_cmp}
 use Rattle.graph_core.specs.GraphValue.{IsGraph, by_names, with_feeder}
-use Rattle.graph_core.specs.Inside.{value_of, feeder_list, AreApart}
+use Rattle.graph_core.specs.Inside.{value_of}
 use Rattle.graph_core.proofs.Faults.{fitting}
-use Rattle.graph_core.proofs.Finding.{lookup_is}
-use Rattle.graph_core.proofs.WireLists.{feeder_list-push, AreApart-push}
 use Rattle.graph_core.proofs.KeepsGraph.{IsGraph-with_feeder}
-use Rattle.graph_core.proofs.Changes.{value_of-push_wire}
 use Rattle.graph_core.proofs.ByNamesAfter.{by_names-with_feeder}
 use Rattle.graph_core.proofs.Options.{none_some, some_there}
 use Rattle.graph_core.proofs.CanWireByNames.{can_wire_where_fits, fits_where_can_wire}
@@ -15,27 +11,22 @@ use Rattle.graph_core.proofs.WiredByNames.{is_taken_by_names}
 use Rattle.graph_core.proofs.graph.Graph.add_wire.Goals as goal
 use Rattle.graph_core.proofs.graph.Graph.add_wire.Goals.{Else-is_err}
 
-pushed : (c : Else-is_err) → c.push.new.self.items ≡ c.self.inside.wires.items ++ record { source = c.args.source; target = c.args.target } ∷ []
-pushed c = search rules
-
-free : (c : Else-is_err) → map.find place_cmp c.args.target (feeder_list c.self.inside.wires.items) ≡ None
-free c =
-    lookup_is c.self.inside.nodes.items c.self.inside.wires.items c.args.target ∙ ap (λ g. map.get g.feeders c.args.target) c.self.view_is
-    ∙ (fitting c.args.self.now c.args.source c.args.target c.in_ok-try_wire.ensures).into
-
 -- the fields then stand for the graph with the wire
-value_is : (c : Else-is_err) → value_of c.self.inside.nodes.items c.push.new.self.items ≡ with_feeder c.args.self.now c.args.source c.args.target
+value_is : (c : Else-is_err) → value_of c.self.inside.nodes.items c.add.new.self ≡ with_feeder c.args.self.now c.args.source c.args.target
 value_is c =
-    ap (value_of c.self.inside.nodes.items) (pushed c)
-    ∙ value_of-push_wire c.self.inside.nodes.items c.self.inside.wires.items (record { source = c.args.source; target = c.args.target }) (free c)
-    ∙ ap (λ g. with_feeder g c.args.source c.args.target) c.self.view_is
+    let added : c.add.new.self ≡ map.insert c.self.inside.wires c.args.target c.args.source = search rules in
+    ap (value_of c.self.inside.nodes.items) added ∙ ap (λ g. with_feeder g c.args.source c.args.target) c.self.view_is
+
+pub add-requires-clause-target_free : goal.add-requires-clause-target_free
+add-requires-clause-target_free c = ap (λ g. map.get g.feeders c.args.target) c.self.view_is ∙ (fitting c.args.self.now c.args.source c.args.target c.in_ok-try_wire.ensures).into
+
+pub add-requires-clause-source_free : goal.add-requires-clause-source_free
+add-requires-clause-source_free c = λ other fed. (fitting c.args.self.now c.args.source c.args.target c.in_ok-try_wire.ensures).from other (ap (λ g. map.get g.feeders other) (sym c.self.view_is) ∙ fed)
 
 pub invariant_of-self-2 : goal.invariant_of-self-2
 invariant_of-self-2 c =
     let ok = subst IsGraph c.self.view_is c.self.invariant.0 in
-    let apart = AreApart-push (feeder_list c.self.inside.wires.items) c.args.target c.args.source c.self.invariant.1 (free c) in
-    let list = ap feeder_list (pushed c) ∙ feeder_list-push c.self.inside.wires.items (record { source = c.args.source; target = c.args.target }) in
-    (subst IsGraph (sym (value_is c)) (IsGraph-with_feeder c.args.self.now ok c.args.source c.args.target c.in_ok-try_wire.ensures), subst AreApart (sym list) apart, c.self.invariant.2)
+    (subst IsGraph (sym (value_is c)) (IsGraph-with_feeder c.args.self.now ok c.args.source c.args.target c.in_ok-try_wire.ensures), c.self.invariant.1)
 
 pub returns-clause-ok : goal.returns-clause-ok
 returns-clause-ok c = value_is c

@@ -7,12 +7,12 @@ use Rattle.graph_core.proofs.graph.Graph.find.Goals as goal
 pub returns-clause-found : goal.returns-clause-found
 returns-clause-found c =
     let name = c.args.name.now in
-    if_some c.get.result _ (λ id e. subst (λ g. HasName g id name) c.self.view_is ((c.self.invariant.2 name id).0 (sym c.get.ensures ∙ e)))
+    if_some c.get.result _ (λ id e. subst (λ g. HasName g id name) c.self.view_is ((c.self.invariant.1 name id).0 (sym c.get.ensures ∙ e)))
 
 pub returns-clause-none : goal.returns-clause-none
 returns-clause-none c =
     let name = c.args.name.now in
-    if_none c.get.result _ (λ e id has. not_None (sym ((c.self.invariant.2 name id).1 (subst (λ g. HasName g id name) (sym c.self.view_is) has)) ∙ sym c.get.ensures ∙ e))
+    if_none c.get.result _ (λ e id has. not_None (sym ((c.self.invariant.1 name id).1 (subst (λ g. HasName g id name) (sym c.self.view_is) has)) ∙ sym c.get.ensures ∙ e))
 
 pub returns-clause-names : goal.returns-clause-names
 returns-clause-names c =

@@ -1,10 +1,9 @@
 use Rattle.std.proofs.Common.{◌≡◌, ◌∙◌, sym, ap, subst, slice_set, None}
 use Rattle.graph_core.specs.GraphValue.{IsGraph, node_at, by_names, without_slot}
-use Rattle.graph_core.specs.Inside.{value_of, feeder_list, AreApart}
+use Rattle.graph_core.specs.Inside.{value_of}
 use Rattle.graph_core.proofs.Known.{if_some, if_none}
-use Rattle.graph_core.proofs.WireLists.{AreApart-filter}
 use Rattle.graph_core.proofs.KeepsGraph.{IsGraph-without_slot}
-use Rattle.graph_core.proofs.Changes.{value_of-away, without_slot-dead}
+use Rattle.graph_core.proofs.Changes.{without_slot-dead}
 use Rattle.graph_core.proofs.ByNamesAfter.{by_names-without_slot}
 use Rattle.graph_core.proofs.graph.Graph.remove_node.Goals as goal
 use Rattle.graph_core.proofs.graph.Graph.remove_node.Goals.{After-remove_at}
@@ -13,18 +12,13 @@ emptied : (c : After-remove_at) → c.take_named-node.new.nodes.items ≡ slice_
 emptied c = c.take_named-node.ensures.emptied
 
 -- the fields then stand for the graph without the node
-value_is : (c : After-remove_at) → value_of c.take_named-node.new.nodes.items c.remove_at.new.wires.items ≡ without_slot c.args.self.now c.args.id
-value_is c =
-    (λ i. value_of (emptied c i) (c.remove_at.ensures i))
-    ∙ value_of-away c.self.inside.nodes.items c.self.inside.wires.items c.args.id c.self.invariant.1 ∙ ap (λ g. without_slot g c.args.id) c.self.view_is
+value_is : (c : After-remove_at) → value_of c.take_named-node.new.nodes.items c.remove_at.new.self ≡ without_slot c.args.self.now c.args.id
+value_is c = (λ i. value_of (emptied c i) (c.remove_at.ensures i)) ∙ ap (λ g. without_slot g c.args.id) c.self.view_is
 
 pub invariant_of-self : goal.invariant_of-self
 invariant_of-self c =
-    let ok = subst IsGraph c.self.view_is c.self.invariant.0 in (
-      subst IsGraph (sym (value_is c)) (IsGraph-without_slot c.args.self.now ok c.args.id),
-      subst (λ wires. AreApart (feeder_list wires)) (sym c.remove_at.ensures) (AreApart-filter _ c.self.inside.wires.items c.self.invariant.1),
-      c.take_named-node.ensures.listed,
-    )
+    let ok = subst IsGraph c.self.view_is c.self.invariant.0 in
+    (subst IsGraph (sym (value_is c)) (IsGraph-without_slot c.args.self.now ok c.args.id), c.take_named-node.ensures.listed)
 
 pub returns-clause-gone : goal.returns-clause-gone
 returns-clause-gone c = value_is c
