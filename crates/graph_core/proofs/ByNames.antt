@@ -10,7 +10,7 @@ use Rattle.graph_core.specs.Place.{index_of, id_of}
 use Rattle.graph_core.specs.Name.{Name, Port, port_get}
 use Rattle.graph_core.specs.Kind.{Shape, ins, outs, ports}
 use Rattle.graph_core.specs.Node.{Body, body_of}
-use Rattle.graph_core.specs.GraphValue.{GraphValue, node_at, shape_of, by_names, named_nodes, name_of, port_named, HasName, IsGraph}
+use Rattle.graph_core.specs.GraphValue.{GraphValue, node_at, shape_of, named_graph, named_nodes, name_of, port_named, HasName, IsGraph}
 use Rattle.graph_core.proofs.Options.{none_some, answer_cases}
 use Rattle.graph_core.proofs.Each.{each_weaker}
 use Rattle.graph_core.proofs.Maps.{each_found, renamed_found, renamed_behind}
@@ -23,13 +23,13 @@ use Rattle.graph_core.proofs.Orders.{name_total, port_total, port_same, place_to
 abbrev pub AreNamesApart : GraphValue → Type 0
 AreNamesApart g = (i j : NodeId) (name : Name) → HasName g i name → HasName g j name → i ≡ j
 
-pub node_found_apart : (g : GraphValue) → AreNamesApart g → (id : NodeId) (node : Node) → node_at g id ≡ Some node → map.get (by_names g).nodes node.name ≡ Some (body_of node)
+pub node_found_apart : (g : GraphValue) → AreNamesApart g → (id : NodeId) (node : Node) → node_at g id ≡ Some node → map.get (named_graph g).nodes node.name ≡ Some (body_of node)
 node_found_apart g apart id node live =
     map.get-from_entries name_total (named_nodes g.slots) node.name
     ∙ named_found g.slots (index_of id) node live (λ j other is name. ap index_of (apart (id_of j) id node.name (other, is, name) (node, live, refl)))
 
 -- a live node stands under its name
-pub node_found : (g : GraphValue) → IsGraph g → (id : NodeId) (node : Node) → node_at g id ≡ Some node → map.get (by_names g).nodes node.name ≡ Some (body_of node)
+pub node_found : (g : GraphValue) → IsGraph g → (id : NodeId) (node : Node) → node_at g id ≡ Some node → map.get (named_graph g).nodes node.name ≡ Some (body_of node)
 node_found g ok id node live = node_found_apart g ok.names id node live
 
 -- behind a name stands a live node
@@ -40,7 +40,7 @@ pub record NodeBehind (g : GraphValue) (name : Name) (body : Body) : Type 0 wher
   pub is_name : node.name ≡ name
   pub is_body : body_of node ≡ body
 
-pub node_behind : (g : GraphValue) (name : Name) (body : Body) → map.get (by_names g).nodes name ≡ Some body → NodeBehind g name body
+pub node_behind : (g : GraphValue) (name : Name) (body : Body) → map.get (named_graph g).nodes name ≡ Some body → NodeBehind g name body
 node_behind g name body found =
     let slot = named_behind g.slots name body (sym (map.get-from_entries name_total (named_nodes g.slots) name) ∙ found) in
     record { id = id_of slot.index; node = slot.node; live = slot.live; is_name = slot.is_name; is_body = slot.is_body }
@@ -87,7 +87,7 @@ wire_ends g ok target source wired =
 abbrev pub IsInputAlone : GraphValue → PortAt → Type 0
 IsInputAlone g target = (p source : PortAt) → map.get g.feeders p ≡ Some source → port_named g p ≡ port_named g target → p ≡ target
 
-pub wire_found_alone : (g : GraphValue) (target source : PortAt) → IsInputAlone g target → map.get g.feeders target ≡ Some source → map.get (by_names g).feeders (port_named g target) ≡ Some (port_named g source)
+pub wire_found_alone : (g : GraphValue) (target source : PortAt) → IsInputAlone g target → map.get g.feeders target ≡ Some source → map.get (named_graph g).feeders (port_named g target) ≡ Some (port_named g source)
 wire_found_alone g target source alone wired =
     let each = each_weaker (λ wire. map.get g.feeders wire.0 ≡ Some wire.1) (λ wire. port_named g wire.0 ≡ port_named g target → wire.0 ≡ target) (λ wire found. alone wire.0 wire.1 found) (map.entries g.feeders) (each_found place_total place_same g.feeders) in
     map.get-from_entries port_total _ (port_named g target)
@@ -97,7 +97,7 @@ pub input_alone : (g : GraphValue) → IsGraph g → (target : PortAt) (node : N
 input_alone g ok target node live p source wired is = same_port g ok.names p target (wire_ends g ok p source wired).to node (wire_ends g ok p source wired).live_to live is
 
 -- a wire stands under the names of its nodes
-pub wire_found : (g : GraphValue) → IsGraph g → (target source : PortAt) → map.get g.feeders target ≡ Some source → map.get (by_names g).feeders (port_named g target) ≡ Some (port_named g source)
+pub wire_found : (g : GraphValue) → IsGraph g → (target source : PortAt) → map.get g.feeders target ≡ Some source → map.get (named_graph g).feeders (port_named g target) ≡ Some (port_named g source)
 wire_found g ok target source wired =
     let ends = wire_ends g ok target source wired in
     wire_found_alone g target source (input_alone g ok target ends.to ends.live_to) wired
@@ -110,16 +110,16 @@ pub record WireBehind (g : GraphValue) (target source : Port) : Type 0 where
   pub is_from : port_named g from ≡ source
   pub is_to : port_named g to ≡ target
 
-pub wire_behind : (g : GraphValue) (target source : Port) → map.get (by_names g).feeders target ≡ Some source → WireBehind g target source
+pub wire_behind : (g : GraphValue) (target source : Port) → map.get (named_graph g).feeders target ≡ Some source → WireBehind g target source
 wire_behind g target source found =
     let each = each_found place_total place_same g.feeders in
     let wire = renamed_behind place_total place_same port_total port_same (port_named g) (port_named g) (λ wire. map.get g.feeders wire.0 ≡ Some wire.1) (map.entries g.feeders) target source each (sym (map.get-from_entries port_total _ target) ∙ found) in
     record { from = wire.entry.1; to = wire.entry.0; wired = wire.holds; is_from = wire.is_value; is_to = wire.is_key }
 
 -- an input of a live node that stands on no wire stands on none by names
-pub wire_none : (g : GraphValue) → IsGraph g → (target : PortAt) (node : Node) → node_at g target.node ≡ Some node → map.get g.feeders target ≡ None → map.get (by_names g).feeders (port_named g target) ≡ None
+pub wire_none : (g : GraphValue) → IsGraph g → (target : PortAt) (node : Node) → node_at g target.node ≡ Some node → map.get g.feeders target ≡ None → map.get (named_graph g).feeders (port_named g target) ≡ None
 wire_none g ok target node live free =
-    elim (answer_cases (map.get (by_names g).feeders (port_named g target))) [
+    elim (answer_cases (map.get (named_graph g).feeders (port_named g target))) [
       | inl found ↦
           let wire = wire_behind g (port_named g target) found.0 found.1 in
           let one : wire.to ≡ target = input_alone g ok target node live wire.to wire.from wire.wired wire.is_to in

@@ -13,7 +13,7 @@ use Rattle.graph_core.specs.Name.{port_get}
 use Rattle.graph_core.specs.Kind.{Shape, ports}
 use Rattle.graph_core.specs.Node.{Body, body_of}
 use Rattle.graph_core.specs.NamedGraph.{CanWire}
-use Rattle.graph_core.specs.GraphValue.{GraphValue, node_at, shape_of, shape_at, feeds, by_names, port_named, IsGraph}
+use Rattle.graph_core.specs.GraphValue.{GraphValue, node_at, shape_of, shape_at, feeds, named_graph, port_named, IsGraph}
 use Rattle.graph_core.specs.Wiring.{fault_between, is_taken, wire_fault}
 use Rattle.graph_core.proofs.Options.{none_some, answer_cases}
 use Rattle.graph_core.proofs.Feeds.{fed_where_feeds, feeds_where_fed}
@@ -26,7 +26,7 @@ none_is None e = refl
 none_is (Some x) e = absurd (true≢false e)
 
 module _ (g : GraphValue) (ok : IsGraph g) (source target : PortAt) where
-  pub can_wire_where_fits : wire_fault g source target ≡ None → CanWire (by_names g) (port_named g source) (port_named g target)
+  pub can_wire_where_fits : wire_fault g source target ≡ None → CanWire (named_graph g) (port_named g source) (port_named g target)
   can_wire_where_fits fits =
       let between = fits_between (shape_at g Outs source) (shape_at g Ins target) (is_taken g source target) fits in
       let start = port_behind (node_at g source.node) Outs source.port between.shape between.is_from in
@@ -51,12 +51,12 @@ module _ (g : GraphValue) (ok : IsGraph g) (source target : PortAt) where
             true≢false (sym (feeds_where_fed g wire.to source (wire.wired ∙ ap Some from)) ∙ free.1);
       }
 
-  shape_by_name : (p : PortAt) (side : Side) (node : Node) (body : Body) (shape : Shape) → node_at g p.node ≡ Some node → map.get (by_names g).nodes (port_named g p).node ≡ Some body → port_get (ports body.kind side) p.port ≡ Some shape → shape_at g side p ≡ Some shape
+  shape_by_name : (p : PortAt) (side : Side) (node : Node) (body : Body) (shape : Shape) → node_at g p.node ≡ Some node → map.get (named_graph g).nodes (port_named g p).node ≡ Some body → port_get (ports body.kind side) p.port ≡ Some shape → shape_at g side p ≡ Some shape
   shape_by_name p side node body shape live is has =
       let one : body ≡ body_of node = same_Some body (body_of node) (sym is ∙ node_of_port g ok p (port_named g p) node live refl) in
       ap (λ o. shape_of o side p.port) live ∙ ap (λ (b : Body). port_get (ports b.kind side) p.port) (sym one) ∙ has
 
-  module _ (from to : Node) (live_from : node_at g source.node ≡ Some from) (live_to : node_at g target.node ≡ Some to) (can : CanWire (by_names g) (port_named g source) (port_named g target)) where
+  module _ (from to : Node) (live_from : node_at g source.node ≡ Some from) (live_to : node_at g target.node ≡ Some to) (can : CanWire (named_graph g) (port_named g source) (port_named g target)) where
     target_free : is_some (map.get g.feeders target) ≡ false
     target_free =
         elim (answer_cases (map.get g.feeders target)) [

@@ -5,12 +5,12 @@ use Rattle.std.specs.FinMap as map
 use Rattle.port_types.specs.declared.side.Side.TheVariants.{Ins, Outs}
 use Rattle.graph_core.specs.declared.place.NodeId.{NodeId}
 use Rattle.graph_core.specs.declared.place.PortAt.{PortAt}
-use Rattle.graph_core.specs.GraphValue.{GraphValue, IsGraph, flat, node_at, is_at, without_slot}
+use Rattle.graph_core.specs.GraphValue.{GraphValue, IsGraph, flat, node_at, is_at, without_id}
 use Rattle.graph_core.proofs.SlotLists.{emptied_dead}
 use Rattle.graph_core.proofs.Finding.{live_where_shaped}
 use Rattle.graph_core.proofs.Orders.{place_total, place_same}
 use Rattle.graph_core.proofs.WireLists.{not_true}
-use Rattle.graph_core.proofs.KeepsGraph.{stays, get-without_slot}
+use Rattle.graph_core.proofs.KeepsGraph.{stays, get-without_id}
 
 not_here : (g : GraphValue) (id : NodeId) (p : PortAt) → node_at g id ≡ None → IsSome (node_at g p.node) → is_at id (Some p) ≡ false
 not_here g id p dead live = not_true _ (λ e. true≢false (sym live ∙ ap is_some (ap (λ i. flat (slice_get g.slots i)) (eqb-true _ _ e) ∙ dead)))
@@ -18,10 +18,10 @@ not_here g id p dead live = not_true _ (λ e. true≢false (sym live ∙ ap is_s
 neither : (a b : Bool) → a ≡ false → b ≡ false → not (a || b) ≡ true
 neither a b e f = λ i. not (e i || f i)
 
-pub without_slot-dead : (g : GraphValue) → IsGraph g → (id : NodeId) → node_at g id ≡ None → without_slot g id ≡ g
-without_slot-dead g ok id dead =
+pub without_id-dead : (g : GraphValue) → IsGraph g → (id : NodeId) → node_at g id ≡ None → without_id g id ≡ g
+without_id-dead g ok id dead =
     let slots = emptied_dead g.slots id.index dead in
-    let feeders = map.same_map place_total place_same (without_slot g id).feeders g.feeders (λ target. get-without_slot g id target ∙ same target (map.get g.feeders target) refl) in
+    let feeders = map.same_map place_total place_same (without_id g id).feeders g.feeders (λ target. get-without_id g id target ∙ same target (map.get g.feeders target) refl) in
     λ i. record { slots = slots i; feeders = feeders i }
   where
     same : (target : PortAt) (o : Option PortAt) → map.get g.feeders target ≡ o → cond (stays g id target) (map.get g.feeders target) None ≡ map.get g.feeders target

@@ -12,7 +12,7 @@ use Rattle.graph_core.specs.Place.{place_cmp}
 use Rattle.graph_core.specs.Name.{Name}
 use Rattle.graph_core.specs.Kind.{Shape}
 use Rattle.graph_core.specs.Node.{NodeOk}
-use Rattle.graph_core.specs.GraphValue.{GraphValue, IsGraph, HasName, node_at, shape_of, shape_at, is_at, with_slot, with_feeder, without_slot}
+use Rattle.graph_core.specs.GraphValue.{GraphValue, IsGraph, HasName, node_at, shape_of, shape_at, is_at, with_slot, with_feeder, without_id}
 use Rattle.graph_core.specs.Wiring.{wire_fault}
 use Rattle.graph_core.proofs.Orders.{place_total, place_same}
 use Rattle.graph_core.proofs.Known.{same_Some, not_None}
@@ -113,8 +113,8 @@ IsGraph-with_feeder g ok source target fits =
 abbrev pub stays : GraphValue → NodeId → PortAt → Bool
 stays g id target = not (is_at id (Some target) || is_at id (map.get g.feeders target))
 
-pub get-without_slot : (g : GraphValue) (id : NodeId) (target : PortAt) → map.get (without_slot g id).feeders target ≡ cond (stays g id target) (map.get g.feeders target) None
-get-without_slot g id target = map.get-retain_keys g.feeders (stays g id) target (λ p tied. ap (stays g id) (sym (place_same target p tied)))
+pub get-without_id : (g : GraphValue) (id : NodeId) (target : PortAt) → map.get (without_id g id).feeders target ≡ cond (stays g id target) (map.get g.feeders target) None
+get-without_id g id target = map.get-retain_keys g.feeders (stays g id) target (λ p tied. ap (stays g id) (sym (place_same target p tied)))
 
 -- a wire that is left, and stands at no port of the node
 pub record Left (g : GraphValue) (id : NodeId) (target source : PortAt) : Type 0 where
@@ -130,13 +130,13 @@ nor true b e = absurd (true≢false (sym e))
 nor false true e = absurd (true≢false (sym e))
 nor false false e = (refl, refl)
 
-pub left : (g : GraphValue) (id : NodeId) (target source : PortAt) → map.get (without_slot g id).feeders target ≡ Some source → Left g id target source
+pub left : (g : GraphValue) (id : NodeId) (target source : PortAt) → map.get (without_id g id).feeders target ≡ Some source → Left g id target source
 left g id target source wired = at (stays g id target) refl
   where
     at : (b : Bool) → stays g id target ≡ b → Left g id target source
-    at false e = absurd (not_None (sym wired ∙ get-without_slot g id target ∙ ap (λ b. cond b (map.get g.feeders target) None) e))
+    at false e = absurd (not_None (sym wired ∙ get-without_id g id target ∙ ap (λ b. cond b (map.get g.feeders target) None) e))
     at true e =
-        let was : map.get g.feeders target ≡ Some source = ap (λ b. cond b (map.get g.feeders target) None) (sym e) ∙ sym (get-without_slot g id target) ∙ wired in
+        let was : map.get g.feeders target ≡ Some source = ap (λ b. cond b (map.get g.feeders target) None) (sym e) ∙ sym (get-without_id g id target) ∙ wired in
         let parts = nor _ _ e in
         record {
           wired = was;
@@ -144,8 +144,8 @@ left g id target source wired = at (stays g id target) refl
           source_away = away_from id source (ap (is_at id) (sym was) ∙ parts.1);
         }
 
-pub IsGraph-without_slot : (g : GraphValue) → IsGraph g → (id : NodeId) → IsGraph (without_slot g id)
-IsGraph-without_slot g ok id =
+pub IsGraph-without_id : (g : GraphValue) → IsGraph g → (id : NodeId) → IsGraph (without_id g id)
+IsGraph-without_id g ok id =
     record {
       nodes = λ i node live. ok.nodes i node (emptied_old g.slots id.index i.index node live);
       names = λ i j name (a, live_a, name_a) (b, live_b, name_b). ok.names i j name (a, emptied_old g.slots id.index i.index a live_a, name_a) (b, emptied_old g.slots id.index j.index b live_b, name_b);
@@ -156,5 +156,5 @@ IsGraph-without_slot g ok id =
       once = λ p q source at_p at_q. ok.once p q source (left g id p source at_p).wired (left g id q source at_q).wired;
     }
   where
-    kept : (side : Side) (p : PortAt) (shape : Shape) → p.node.index ≢ id.index → shape_at g side p ≡ Some shape → shape_at (without_slot g id) side p ≡ Some shape
-    kept side p shape apart = shape_kept g (without_slot g id) side p shape (λ node live. slot_other g.slots id.index p.node.index apart ∙ live)
+    kept : (side : Side) (p : PortAt) (shape : Shape) → p.node.index ≢ id.index → shape_at g side p ≡ Some shape → shape_at (without_id g id) side p ≡ Some shape
+    kept side p shape apart = shape_kept g (without_id g id) side p shape (λ node live. slot_other g.slots id.index p.node.index apart ∙ live)

@@ -10,16 +10,16 @@ use Rattle.graph_core.specs.Name.{Name, Port, port_get}
 use Rattle.graph_core.specs.Kind.{Shape, ins, outs, ports, KindOk}
 use Rattle.graph_core.specs.Node.{Body, body_of}
 use Rattle.graph_core.specs.NamedGraph.{IsTyped, IsWire}
-use Rattle.graph_core.specs.GraphValue.{GraphValue, node_at, shape_of, shape_at, name_of, by_names, port_named, IsGraph}
+use Rattle.graph_core.specs.GraphValue.{GraphValue, node_at, shape_of, shape_at, name_of, named_graph, port_named, IsGraph}
 use Rattle.graph_core.specs.Wiring.{IsFree, IsOpen}
 use Rattle.graph_core.proofs.Options.{none_some, some_there, answer_cases}
 use Rattle.graph_core.proofs.Feeds.{feeds_cases}
 use Rattle.graph_core.proofs.ByNames.{NodeBehind, node_found, node_behind, port_behind, same_port, wire_ends, wire_found, wire_behind, wire_none}
 
 -- the node of a port of a live node stands under its name
-pub node_of_port : (g : GraphValue) → IsGraph g → (p : PortAt) (q : Port) (node : Node) → node_at g p.node ≡ Some node → port_named g p ≡ q → map.get (by_names g).nodes q.node ≡ Some (body_of node)
+pub node_of_port : (g : GraphValue) → IsGraph g → (p : PortAt) (q : Port) (node : Node) → node_at g p.node ≡ Some node → port_named g p ≡ q → map.get (named_graph g).nodes q.node ≡ Some (body_of node)
 node_of_port g ok p q node live is =
-    ap (map.get (by_names g).nodes) (ap (λ (port : Port). port.node) (sym is) ∙ ap name_of live) ∙ node_found g ok p.node node live
+    ap (map.get (named_graph g).nodes) (ap (λ (port : Port). port.node) (sym is) ∙ ap name_of live) ∙ node_found g ok p.node node live
 
 -- a port by name is a port of the node that stands behind the name
 module _ (g : GraphValue) (p : Port) (body : Body) (there : NodeBehind g p.node body) where
@@ -35,12 +35,12 @@ module _ (g : GraphValue) (p : Port) (body : Body) (there : NodeBehind g p.node 
       ap is_some is
 
 module _ (g : GraphValue) (ok : IsGraph g) where
-  kind_typed : (name : Name) (body : Body) → map.get (by_names g).nodes name ≡ Some body → KindOk body.kind
+  kind_typed : (name : Name) (body : Body) → map.get (named_graph g).nodes name ≡ Some body → KindOk body.kind
   kind_typed name body found =
       let there = node_behind g name body found in
       subst (λ (b : Body). KindOk b.kind) there.is_body (ok.nodes there.id there.node there.live).kind
 
-  pub wire_typed : (target source : Port) → map.get (by_names g).feeders target ≡ Some source → IsWire (by_names g) source target
+  pub wire_typed : (target source : Port) → map.get (named_graph g).feeders target ≡ Some source → IsWire (named_graph g) source target
   wire_typed target source found =
       let wire = wire_behind g target source found in
       let ends = wire_ends g ok wire.to wire.from wire.wired in
@@ -54,7 +54,7 @@ module _ (g : GraphValue) (ok : IsGraph g) where
         enters = ap (λ (port : Port). port_get (ins ends.to.kind) port.port) (sym wire.is_to) ∙ ends.enters;
       }
 
-  once_typed : (p q source : Port) → map.get (by_names g).feeders p ≡ Some source → map.get (by_names g).feeders q ≡ Some source → p ≡ q
+  once_typed : (p q source : Port) → map.get (named_graph g).feeders p ≡ Some source → map.get (named_graph g).feeders q ≡ Some source → p ≡ q
   once_typed p q source found other =
       let wire = wire_behind g p source found in
       let second = wire_behind g q source other in
@@ -65,16 +65,16 @@ module _ (g : GraphValue) (ok : IsGraph g) where
       sym wire.is_to ∙ ap (port_named g) to ∙ second.is_to
 
   module _ (closed : (p : PortOpen) → ¬ (IsOpen g p)) where
-    input_typed : (p : Port) (body : Body) (shape : Shape) → map.get (by_names g).nodes p.node ≡ Some body → port_get (ins body.kind) p.port ≡ Some shape → (source : Port) × (map.get (by_names g).feeders p ≡ Some source)
+    input_typed : (p : Port) (body : Body) (shape : Shape) → map.get (named_graph g).nodes p.node ≡ Some body → port_get (ins body.kind) p.port ≡ Some shape → (source : Port) × (map.get (named_graph g).feeders p ≡ Some source)
     input_typed p body shape found has =
         let there = node_behind g p.node body found in
         let target = port_there g p body there in
         elim (answer_cases (map.get g.feeders target)) [
-          | inl fed ↦ (port_named g fed.0, ap (map.get (by_names g).feeders) (sym (named_there g p body there)) ∙ wire_found g ok target fed.0 fed.1)
+          | inl fed ↦ (port_named g fed.0, ap (map.get (named_graph g).feeders) (sym (named_there g p body there)) ∙ wire_found g ok target fed.0 fed.1)
           | inr free ↦ absurd (closed (record { node = there.id; side = Ins; port = p.port }) (record { there = shape_there g p body there Ins shape has; free = free }))
         ]
 
-    output_typed : (p : Port) (body : Body) (shape : Shape) → map.get (by_names g).nodes p.node ≡ Some body → port_get (outs body.kind) p.port ≡ Some shape → (target : Port) × (map.get (by_names g).feeders target ≡ Some p)
+    output_typed : (p : Port) (body : Body) (shape : Shape) → map.get (named_graph g).nodes p.node ≡ Some body → port_get (outs body.kind) p.port ≡ Some shape → (target : Port) × (map.get (named_graph g).feeders target ≡ Some p)
     output_typed p body shape found has =
         let there = node_behind g p.node body found in
         let source = port_there g p body there in
@@ -83,7 +83,7 @@ module _ (g : GraphValue) (ok : IsGraph g) where
           | inr free ↦ absurd (closed (record { node = there.id; side = Outs; port = p.port }) (record { there = shape_there g p body there Outs shape has; free = free }))
         ]
 
-pub typed_where_closed : (g : GraphValue) → IsGraph g → ((p : PortOpen) → ¬ (IsOpen g p)) → IsTyped (by_names g)
+pub typed_where_closed : (g : GraphValue) → IsGraph g → ((p : PortOpen) → ¬ (IsOpen g p)) → IsTyped (named_graph g)
 typed_where_closed g ok closed =
     record {
       kinds = kind_typed g ok;
@@ -93,7 +93,7 @@ typed_where_closed g ok closed =
       once = once_typed g ok;
     }
 
-closed_at : (g : GraphValue) → IsGraph g → IsTyped (by_names g) → (side : Side) (p : PortAt) → IsSome (shape_at g side p) → IsFree g side p → ⊥
+closed_at : (g : GraphValue) → IsGraph g → IsTyped (named_graph g) → (side : Side) (p : PortAt) → IsSome (shape_at g side p) → IsFree g side p → ⊥
 closed_at g ok typed Ins p there free =
     let shape = some_there (shape_at g Ins p) there in
     let port = port_behind (node_at g p.node) Ins p.port shape.0 shape.1 in
@@ -108,5 +108,5 @@ closed_at g ok typed Outs p there free =
     let from : wire.from ≡ p = same_port g ok.names wire.from p ends.from port.node ends.live_from port.live wire.is_from in
     free wire.to (wire.wired ∙ ap Some from)
 
-pub closed_where_typed : (g : GraphValue) → IsGraph g → IsTyped (by_names g) → (p : PortOpen) → ¬ (IsOpen g p)
+pub closed_where_typed : (g : GraphValue) → IsGraph g → IsTyped (named_graph g) → (p : PortOpen) → ¬ (IsOpen g p)
 closed_where_typed g ok typed p opened = closed_at g ok typed p.side (record { node = p.node; port = p.port }) opened.there opened.free

@@ -9,7 +9,7 @@ use Rattle.port_types.specs.declared.side.Side.TheVariants.{Ins, Outs}
 use Rattle.graph_core.specs.declared.place.PortAt.{PortAt}
 use Rattle.graph_core.specs.Name.{Port, port_cmp}
 use Rattle.graph_core.specs.NamedGraph.{NamedGraph, is_wired}
-use Rattle.graph_core.specs.GraphValue.{GraphValue, node_at, feeds, by_names, port_named, IsGraph}
+use Rattle.graph_core.specs.GraphValue.{GraphValue, node_at, feeds, named_graph, port_named, IsGraph}
 use Rattle.graph_core.specs.Wiring.{IsFree, is_taken}
 use Rattle.graph_core.proofs.Options.{some_there, answer_cases}
 use Rattle.graph_core.proofs.Orders.{port_total, port_same}
@@ -42,47 +42,47 @@ wired_where_fed g target source wired =
 -- Ports of live nodes
 
 module _ (g : GraphValue) (ok : IsGraph g) where
-  free_by_name : (side : Side) (p : PortAt) → IsSome (node_at g p.node) → IsFree g side p → is_wired (by_names g) side (port_named g p) ≡ false
+  free_by_name : (side : Side) (p : PortAt) → IsSome (node_at g p.node) → IsFree g side p → is_wired (named_graph g) side (port_named g p) ≡ false
   free_by_name Ins p live free =
       let node = some_there (node_at g p.node) live in
       ap is_some (wire_none g ok p node.0 node.1 free)
   free_by_name Outs p live free =
       let node = some_there (node_at g p.node) live in
-      false_from_ne_true (is_wired (by_names g) Outs (port_named g p)) (λ test.
-      let fed = fed_where_wired (by_names g) (port_named g p) test in
+      false_from_ne_true (is_wired (named_graph g) Outs (port_named g p)) (λ test.
+      let fed = fed_where_wired (named_graph g) (port_named g p) test in
       let wire = wire_behind g fed.0 (port_named g p) fed.1 in
       let ends = wire_ends g ok wire.to wire.from wire.wired in
       let from : wire.from ≡ p = same_port g ok.names wire.from p ends.from node.0 ends.live_from node.1 wire.is_from in
       free wire.to (wire.wired ∙ ap Some from))
 
-  free_by_index : (side : Side) (p : PortAt) → is_wired (by_names g) side (port_named g p) ≡ false → IsFree g side p
+  free_by_index : (side : Side) (p : PortAt) → is_wired (named_graph g) side (port_named g p) ≡ false → IsFree g side p
   free_by_index Ins p test =
       elim (answer_cases (map.get g.feeders p)) [
         | inl fed ↦ absurd (true≢false (sym (ap is_some (wire_found g ok p fed.0 fed.1)) ∙ test))
         | inr none ↦ none
       ]
   free_by_index Outs p test = λ target wired.
-      true≢false (sym (wired_where_fed (by_names g) (port_named g target) (port_named g p) (wire_found g ok target p wired)) ∙ test)
+      true≢false (sym (wired_where_fed (named_graph g) (port_named g target) (port_named g p) (wire_found g ok target p wired)) ∙ test)
 
-  pub is_free_by_names : (side : Side) (p : PortAt) → IsSome (node_at g p.node) → IsFree g side p ↔ (is_wired (by_names g) side (port_named g p) ≡ false)
+  pub is_free_by_names : (side : Side) (p : PortAt) → IsSome (node_at g p.node) → IsFree g side p ↔ (is_wired (named_graph g) side (port_named g p) ≡ false)
   is_free_by_names side p live = (free_by_name side p live, free_by_index side p)
 
-  input_by_names : (target : PortAt) → IsSome (node_at g target.node) → is_some (map.get g.feeders target) ≡ is_wired (by_names g) Ins (port_named g target)
+  input_by_names : (target : PortAt) → IsSome (node_at g target.node) → is_some (map.get g.feeders target) ≡ is_wired (named_graph g) Ins (port_named g target)
   input_by_names target live =
       elim (answer_cases (map.get g.feeders target)) [
         | inl fed ↦ ap is_some fed.1 ∙ sym (ap is_some (wire_found g ok target fed.0 fed.1))
         | inr none ↦ ap is_some none ∙ sym (free_by_name Ins target live none)
       ]
 
-  output_by_names : (source : PortAt) → IsSome (node_at g source.node) → feeds g source ≡ is_wired (by_names g) Outs (port_named g source)
+  output_by_names : (source : PortAt) → IsSome (node_at g source.node) → feeds g source ≡ is_wired (named_graph g) Outs (port_named g source)
   output_by_names source live =
       elim (feeds_cases g source) [
-        | inl fed ↦ feeds_where_fed g fed.0 source fed.1 ∙ sym (wired_where_fed (by_names g) (port_named g fed.0) (port_named g source) (wire_found g ok fed.0 source fed.1))
+        | inl fed ↦ feeds_where_fed g fed.0 source fed.1 ∙ sym (wired_where_fed (named_graph g) (port_named g fed.0) (port_named g source) (wire_found g ok fed.0 source fed.1))
         | inr free ↦
             let none : feeds g source ≡ false = false_from_ne_true (feeds g source) (λ test. let fed = fed_where_feeds g source test in free fed.0 fed.1) in
             none ∙ sym (free_by_name Outs source live free)
       ]
 
   pub is_taken_by_names : (source target : PortAt) → IsSome (node_at g source.node) → IsSome (node_at g target.node) →
-      is_taken g source target ≡ (is_wired (by_names g) Ins (port_named g target) || is_wired (by_names g) Outs (port_named g source))
+      is_taken g source target ≡ (is_wired (named_graph g) Ins (port_named g target) || is_wired (named_graph g) Outs (port_named g source))
   is_taken_by_names source target from to = λ i. input_by_names target to i || output_by_names source from i

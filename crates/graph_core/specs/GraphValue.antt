@@ -61,8 +61,8 @@ abbrev pub named_wire : GraphValue → PortAt × PortAt → Port × Port
 named_wire g wire = (port_named g wire.0, port_named g wire.1)
 
 -- the graph by names that a graph stands for
-abbrev pub by_names : GraphValue → NamedGraph
-by_names g =
+abbrev pub named_graph : GraphValue → NamedGraph
+named_graph g =
     record {
       nodes = map.from_entries (named_nodes g.slots);
       feeders = map.from_entries (map (named_wire g) (map.entries g.feeders));
@@ -70,7 +70,7 @@ by_names g =
 
 -- the ids are those of the nodes in byte order of their names
 abbrev pub AreInOrder : GraphValue → List NodeId → Type 0
-AreInOrder g ids = map (named_at g) ids ≡ map Some (map.entries (by_names g).nodes)
+AreInOrder g ids = map (named_at g) ids ≡ map Some (map.entries (named_graph g).nodes)
 
 -- What the calls say
 
@@ -100,8 +100,8 @@ abbrev pub with_feeder : GraphValue → PortAt → PortAt → GraphValue
 with_feeder g source target = record g { feeders = map.insert g.feeders target source }
 
 -- without the node of this id and the wires at its ports
-abbrev pub without_slot : GraphValue → NodeId → GraphValue
-without_slot g id =
+abbrev pub without_id : GraphValue → NodeId → GraphValue
+without_id g id =
     record {
       slots = slice_set g.slots (index_of id) None;
       feeders = map.retain_keys g.feeders (λ target. not (is_at id (Some target) || is_at id (map.get g.feeders target)));

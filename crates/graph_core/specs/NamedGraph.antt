@@ -68,5 +68,5 @@ pub record IsTyped (g : NamedGraph) : Type 0 where
   pub once : (p q source : Port) → map.get g.feeders p ≡ Some source → map.get g.feeders q ≡ Some source → p ≡ q
 
 -- each node has a name that is allowed
-abbrev pub IsNamed : NamedGraph → Type 0
-IsNamed g = (name : Name) (body : Body) → map.get g.nodes name ≡ Some body → IsName name
+abbrev pub HasAllowedNames : NamedGraph → Type 0
+HasAllowedNames g = (name : Name) (body : Body) → map.get g.nodes name ≡ Some body → IsName name

@@ -6,7 +6,7 @@ ghost use Rattle.graph_core.specs.Place.{index_of, id_of};
 ghost use Rattle.graph_core.specs.Kind.{KindOk};
 ghost use Rattle.graph_core.specs.Node.{NodeOk, body_of};
 ghost use Rattle.graph_core.specs.NamedGraph.{CanWire, IsTyped, IsWire, is_wired, no_graph, with_node, with_wire, without_node};
-ghost use Rattle.graph_core.specs.GraphValue.{AreInOrder, by_names, node_at, next_id, port_named, shape_at, HasName, IsGraph, with_slot, with_feeder, without_slot};
+ghost use Rattle.graph_core.specs.GraphValue.{AreInOrder, named_graph, node_at, next_id, port_named, shape_at, HasName, IsGraph, with_slot, with_feeder, without_id};
 ghost use Rattle.graph_core.specs.Wiring.{wire_fault, is_taken, IsWireFault, IsFree, IsOpen, IsFirstOpen};
 ghost use Rattle.graph_core.specs.OpenPorts.{IsClosed, IsFirstOpenAt, AreWired, IsFirstFree};
 
@@ -51,7 +51,7 @@ pub struct PortOpen {
 }
 
 /// A graph: nodes with different names, and wires from outputs to inputs of equal shape. Each port stands on at most
-/// one wire. Contracts see the nodes by index and, by input, the outputs that feed them; `by_names` gives the graph by names.
+/// one wire. Contracts see the nodes by index and, by input, the outputs that feed them; `named_graph` gives the graph by names.
 #[derive(Debug, Drop)]
 pub struct Graph {
     nodes: Vec<Option<Node>>,
@@ -77,7 +77,7 @@ impl Graph {
     pub fn new(alloc: Global) -> Graph
         ensures slots { result.slots ≡ [] }
         ensures feeders { result.feeders ≡ map_of.empty }
-        ensures names { by_names result ≡ no_graph }
+        ensures names { named_graph result ≡ no_graph }
     {
         Graph {
             nodes: Vec::new(alloc),
@@ -92,8 +92,8 @@ impl Graph {
         requires { NodeOk node }
         ensures id { IfOk result (λ id. id ≡ next_id self.old) }
         ensures ok { OnOk result (self.new ≡ with_slot self.old node) }
-        ensures names { OnOk result (by_names self.new ≡ with_node (by_names self.old) node.name (body_of node)) }
-        ensures taken { (result ≡ Err AddNode.NameTaken) ↔ IsSome (map_of.get (by_names self.old).nodes node.name) }
+        ensures names { OnOk result (named_graph self.new ≡ with_node (named_graph self.old) node.name (body_of node)) }
+        ensures taken { (result ≡ Err AddNode.NameTaken) ↔ IsSome (map_of.get (named_graph self.old).nodes node.name) }
         ensures err { OnErr result (self.new ≡ self.old) }
     {
         if self.find(node.name.bytes()).is_some() {
@@ -109,15 +109,15 @@ impl Graph {
     /// `PortTaken` exactly where one stands on a wire, `ShapeDiffers` exactly where their shapes differ; and `NoMemory`.
     pub fn add_wire(&mut self, source: PortAt, target: PortAt) -> Result<(), AddWire>
         ensures ok { OnOk result (self.new ≡ with_feeder self.old source target) }
-        ensures names { OnOk result (by_names self.new ≡ with_wire (by_names self.old) (port_named self.old source) (port_named self.old target)) }
+        ensures names { OnOk result (named_graph self.new ≡ with_wire (named_graph self.old) (port_named self.old source) (port_named self.old target)) }
         ensures fault { MatchResult result (λ _. wire_fault self.old source target ≡ None) (IsWireFault (wire_fault self.old source target)) }
 
         // By names: the wire could be added where it was, is added where it can be, and a port stands on a wire where it does.
-        ensures could { OnOk result (CanWire (by_names self.old) (port_named self.old source) (port_named self.old target)) }
+        ensures could { OnOk result (CanWire (named_graph self.old) (port_named self.old source) (port_named self.old target)) }
         ensures can { IsSome (node_at self.old source.node) → IsSome (node_at self.old target.node)
-            → CanWire (by_names self.old) (port_named self.old source) (port_named self.old target) → IsOkUnless result AddWire.NoMemory }
+            → CanWire (named_graph self.old) (port_named self.old source) (port_named self.old target) → IsOkUnless result AddWire.NoMemory }
         ensures taken { IsSome (node_at self.old source.node) → IsSome (node_at self.old target.node)
-            → is_taken self.old source target ≡ (is_wired (by_names self.old) Side.Ins (port_named self.old target) || is_wired (by_names self.old) Side.Outs (port_named self.old source)) }
+            → is_taken self.old source target ≡ (is_wired (named_graph self.old) Side.Ins (port_named self.old target) || is_wired (named_graph self.old) Side.Outs (port_named self.old source)) }
 
         ensures err { OnErr result (self.new ≡ self.old) }
     {
@@ -163,8 +163,8 @@ impl Graph {
     /// the graph is then as it was.
     pub fn remove_node(&mut self, id: NodeId) -> Option<Node>
         ensures node { result ≡ node_at self.old id }
-        ensures gone { self.new ≡ without_slot self.old id }
-        ensures names { IfSome result (λ node. by_names self.new ≡ without_node (by_names self.old) node.name) }
+        ensures gone { self.new ≡ without_id self.old id }
+        ensures names { IfSome result (λ node. named_graph self.new ≡ without_node (named_graph self.old) node.name) }
         ensures none { IfNone result (self.new ≡ self.old) }
     {
         let node = take_named(&mut self.nodes, &mut self.names, id);
@@ -176,7 +176,7 @@ impl Graph {
     pub fn node(&self, id: NodeId) -> Option<&Node>
         ensures live { option_copied result ≡ node_at self.now id }
         ensures right { IfSome (node_at self.now id) NodeOk }
-        ensures names { IfSome (node_at self.now id) (λ node. map_of.get (by_names self.now).nodes node.name ≡ Some (body_of node)) }
+        ensures names { IfSome (node_at self.now id) (λ node. map_of.get (named_graph self.now).nodes node.name ≡ Some (body_of node)) }
         ensures alone { IfSome (node_at self.now id) (λ node. (other : NodeId) → HasName self.now other node.name → other ≡ id) }
     {
         node_in(&self.nodes, id.index())
@@ -186,7 +186,7 @@ impl Graph {
     pub fn find(&self, name: &[u8]) -> Option<NodeId>
         ensures found { IfSome result (λ id. HasName self.now id name.now) }
         ensures none { IfNone result ((id : NodeId) → ¬ (HasName self.now id name.now)) }
-        ensures names { is_some result ≡ map_of.contains_key (by_names self.now).nodes name.now }
+        ensures names { is_some result ≡ map_of.contains_key (named_graph self.now).nodes name.now }
     {
         self.names.get(name)
     }
@@ -195,7 +195,7 @@ impl Graph {
     pub fn wire_into(&self, target: PortAt) -> Option<PortAt>
         ensures feeder { result ≡ map_of.get self.now.feeders target }
         ensures live { IfSome result (λ source. IsSome (node_at self.now source.node)) }
-        ensures names { IsSome (node_at self.now target.node) → option_map (port_named self.now) result ≡ map_of.get (by_names self.now).feeders (port_named self.now target) }
+        ensures names { IsSome (node_at self.now target.node) → option_map (port_named self.now) result ≡ map_of.get (named_graph self.now).feeders (port_named self.now target) }
     {
         self.wires.source_of(target)
     }
@@ -205,9 +205,9 @@ impl Graph {
         ensures fed { IfSome result (λ target. map_of.get self.now.feeders target ≡ Some source) }
         ensures none { IfNone result ((target : PortAt) → map_of.get self.now.feeders target ≢ Some source) }
         ensures live { IfSome result (λ target. IsSome (node_at self.now target.node)) }
-        ensures names { IfSome result (λ target. map_of.get (by_names self.now).feeders (port_named self.now target) ≡ Some (port_named self.now source)) }
+        ensures names { IfSome result (λ target. map_of.get (named_graph self.now).feeders (port_named self.now target) ≡ Some (port_named self.now source)) }
         ensures none_by_name { IsSome (node_at self.now source.node)
-            → IfNone result ((target : Port) → map_of.get (by_names self.now).feeders target ≢ Some (port_named self.now source)) }
+            → IfNone result ((target : Port) → map_of.get (named_graph self.now).feeders target ≢ Some (port_named self.now source)) }
     {
         self.wires.target_of(source)
     }
@@ -249,7 +249,7 @@ impl Graph {
         ensures order { IfOk result (λ ids. AreInOrder self.now ids.items) }
 
         // Each wire by names joins an output and an input of nodes of the graph.
-        ensures wires { (target source : Port) → map_of.get (by_names self.now).feeders target ≡ Some source → IsWire (by_names self.now) source target }
+        ensures wires { (target source : Port) → map_of.get (named_graph self.now).feeders target ≡ Some source → IsWire (named_graph self.now) source target }
     {
         ids_by_name(alloc, &self.nodes)
     }
@@ -264,12 +264,12 @@ pub(crate) fn graph_is_right(g: &Graph)
 
 /// Whether each port of each node stands on a wire. If not, the error is the first that stands on none, in the order of ids, inputs before outputs, by number.
 pub fn check_typed(g: &Graph) -> Result<(), PortOpen>
-    ensures typed { IsOk result ↔ IsTyped (by_names g.now) }
+    ensures typed { IsOk result ↔ IsTyped (named_graph g.now) }
     ensures first { IfErr result (IsFirstOpen g.now) }
     ensures closed { OnOk result ((p : PortOpen) → ¬ (IsOpen g.now p)) }
 
     // A port of a live node is free by index exactly where it stands on no wire by names.
-    ensures free { (side : Side) (p : PortAt) → IsSome (node_at g.now p.node) → IsFree g.now side p ↔ (is_wired (by_names g.now) side (port_named g.now p) ≡ false) }
+    ensures free { (side : Side) (p : PortAt) → IsSome (node_at g.now p.node) → IsFree g.now side p ↔ (is_wired (named_graph g.now) side (port_named g.now p) ≡ false) }
 {
     for index in 0..g.nodes.len() {
         check_node(g, NodeId::new(index))?;

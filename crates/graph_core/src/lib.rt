@@ -3,7 +3,7 @@
 //! - `Kind`: the components, with `kind_ok`, `inputs`, `outputs` and `port_shape`, which read the table of their ports, and `owns`, which tells the attributes of each.
 //! - `Node`: a name, a kind, and the attributes that are kept as texts.
 //! - `Graph`: nodes by index and wires between ports. Contracts see it by its slots, and by names through
-//!   `by_names` in `specs/`: one map from names to nodes, one from input ports to the outputs that feed them.
+//!   `named_graph` in `specs/`: one map from names to nodes, one from input ports to the outputs that feed them.
 //! - `check_typed`: whether each port stands on a wire.
 //! - `same_graph`: whether two graphs are the same by names.
 #![tactic(auto)]

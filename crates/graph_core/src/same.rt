@@ -4,7 +4,7 @@ ghost use Rattle.std.specs.FinMap as map_of;
 ghost use Rattle.graph_core.specs.declared.node.Node.{Node};
 ghost use Rattle.graph_core.specs.Name.{name_cmp};
 ghost use Rattle.graph_core.specs.Node.{NodeOk, body_of};
-ghost use Rattle.graph_core.specs.GraphValue.{by_names, node_at, port_named, HasName};
+ghost use Rattle.graph_core.specs.GraphValue.{named_graph, node_at, port_named, HasName};
 ghost use Rattle.graph_core.specs.OpenPorts.{port_at};
 ghost use Rattle.graph_core.specs.Within.{IsFedIn, IsWithin, StandsIn};
 
@@ -16,14 +16,14 @@ use port_types::{Shape, Text, same_shape};
 
 /// Whether two graphs have equal names, kinds, kept attributes and wires, whatever the ids of their nodes and the order of kept attributes. Takes no memory.
 pub fn same_graph(a: &Graph, b: &Graph) -> bool
-    ensures { IsTrue result ↔ (by_names a.now ≡ by_names b.now) }
+    ensures { IsTrue result ↔ (named_graph a.now ≡ named_graph b.now) }
 {
     is_within(a, b) && is_within(b, a)
 }
 
 /// Whether each node and each wire of `a` stands in `b`.
 fn is_within(a: &Graph, b: &Graph) -> bool
-    ensures { IsTrue result ↔ IsWithin (by_names a.now) (by_names b.now) }
+    ensures { IsTrue result ↔ IsWithin (named_graph a.now) (named_graph b.now) }
 {
     graph_is_right(a);
     for index in 0..a.slots() {
@@ -36,7 +36,7 @@ fn is_within(a: &Graph, b: &Graph) -> bool
 
 /// Whether the live node of this id, if any, stands in `b` with what feeds its inputs.
 fn stands_in(a: &Graph, id: NodeId, b: &Graph) -> bool
-    ensures { IsTrue result ↔ ((node : Node) → node_at a.now id ≡ Some node → StandsIn (by_names a.now) node (by_names b.now)) }
+    ensures { IsTrue result ↔ ((node : Node) → node_at a.now id ≡ Some node → StandsIn (named_graph a.now) node (named_graph b.now)) }
 {
     let Some(node) = a.node(id) else {
         return true;
@@ -51,8 +51,8 @@ fn stands_in(a: &Graph, id: NodeId, b: &Graph) -> bool
 fn find_node(g: &Graph, node: &Node) -> Option<NodeId>
     requires { NodeOk node.now }
     ensures found { IfSome result (λ id. HasName g.now id node.now.name) }
-    ensures same { IfSome result (λ id. map_of.get (by_names g.now).nodes node.now.name ≡ Some (body_of node.now)) }
-    ensures none { IfNone result (map_of.get (by_names g.now).nodes node.now.name ≢ Some (body_of node.now)) }
+    ensures same { IfSome result (λ id. map_of.get (named_graph g.now).nodes node.now.name ≡ Some (body_of node.now)) }
+    ensures none { IfNone result (map_of.get (named_graph g.now).nodes node.now.name ≢ Some (body_of node.now)) }
 {
     let id = g.find(node.name.bytes())?;
     let found = g.node(id)?;
@@ -67,7 +67,7 @@ fn find_node(g: &Graph, node: &Node) -> Option<NodeId>
 fn are_fed_in(a: &Graph, node: NodeId, b: &Graph, twin: NodeId, count: u8) -> bool
     requires node { IsSome (node_at a.now node) }
     requires twin { IsSome (node_at b.now twin) }
-    ensures { IsTrue result ↔ ((k : ℕ) → 1 ≤ k → k ≤ count → IsFedIn (by_names a.now) (port_named a.now (port_at node k)) (by_names b.now) (port_named b.now (port_at twin k))) }
+    ensures { IsTrue result ↔ ((k : ℕ) → 1 ≤ k → k ≤ count → IsFedIn (named_graph a.now) (port_named a.now (port_at node k)) (named_graph b.now) (port_named b.now (port_at twin k))) }
 {
     for port in 1..=count {
         if !is_fed_in(a, PortAt { node, port }, b, PortAt { node: twin, port }) {
@@ -81,7 +81,7 @@ fn are_fed_in(a: &Graph, node: NodeId, b: &Graph, twin: NodeId, count: u8) -> bo
 fn is_fed_in(a: &Graph, p: PortAt, b: &Graph, q: PortAt) -> bool
     requires first { IsSome (node_at a.now p.node) }
     requires second { IsSome (node_at b.now q.node) }
-    ensures { IsTrue result ↔ IsFedIn (by_names a.now) (port_named a.now p) (by_names b.now) (port_named b.now q) }
+    ensures { IsTrue result ↔ IsFedIn (named_graph a.now) (port_named a.now p) (named_graph b.now) (port_named b.now q) }
 {
     match (a.wire_into(p), b.wire_into(q)) {
         (Some(from), Some(other)) => same_name(a, from, b, other),

@@ -3,7 +3,7 @@ use Rattle.std.proofs.Common.{◌≡◌, List, [], ◌∷◌, ◌++◌, map, fla
 use Rattle.std.specs.FinMap as map_of
 use Rattle.std.proofs.lemmas.List.Folds.{flat_map-map}
 use Rattle.graph_core.specs.declared.place.NodeId.{NodeId}
-use Rattle.graph_core.specs.GraphValue.{GraphValue, by_names, named_at}
+use Rattle.graph_core.specs.GraphValue.{GraphValue, named_graph, named_at}
 use Rattle.graph_print.specs.CanonicalText.{node_entry, edge_entry}
 use Rattle.graph_print.specs.PrintedWires.{wires_into}
 use Rattle.graph_print.specs.DocumentParts.{node_entries_of, node_entries_at, edge_entries_of, edge_entries_at}
@@ -26,14 +26,14 @@ flat_map-entries : {A E B : Type 0} (f : A → Option E) (made : Option E → Li
 flat_map-entries f made made_of each ids es is =
     sym (flat_map-map made f ids) ∙ ap (flat_map made) is ∙ flat_map-map made Some es ∙ (λ i. flat_map (λ e. each e i) es)
 
-module _ (g : GraphValue) (ids : List NodeId) (order : map (named_at g) ids ≡ map Some (map_of.entries (by_names g).nodes)) where
-  pub statements_of_nodes : flat_map (node_entries_at g) ids ≡ map node_entry (map_of.entries (by_names g).nodes)
+module _ (g : GraphValue) (ids : List NodeId) (order : map (named_at g) ids ≡ map Some (map_of.entries (named_graph g).nodes)) where
+  pub statements_of_nodes : flat_map (node_entries_at g) ids ≡ map node_entry (map_of.entries (named_graph g).nodes)
   statements_of_nodes =
-      flat_map-entries (named_at g) node_entries_of (λ node. node_entry node ∷ []) (λ node. refl) ids (map_of.entries (by_names g).nodes) order
-      ∙ one_each node_entry (map_of.entries (by_names g).nodes)
+      flat_map-entries (named_at g) node_entries_of (λ node. node_entry node ∷ []) (λ node. refl) ids (map_of.entries (named_graph g).nodes) order
+      ∙ one_each node_entry (map_of.entries (named_graph g).nodes)
 
-  pub statements_of_wires : AreWires (by_names g) → flat_map (edge_entries_at g) ids ≡ map edge_entry (map_of.entries (by_names g).feeders)
+  pub statements_of_wires : AreWires (named_graph g) → flat_map (edge_entries_at g) ids ≡ map edge_entry (map_of.entries (named_graph g).feeders)
   statements_of_wires wires =
-      flat_map-entries (named_at g) (edge_entries_of (by_names g)) (λ node. map edge_entry (wires_into (by_names g) node)) (λ node. refl) ids (map_of.entries (by_names g).nodes) order
-      ∙ map-flat_map edge_entry (wires_into (by_names g)) (map_of.entries (by_names g).nodes)
-      ∙ ap (map edge_entry) (wires_in_order (by_names g) wires)
+      flat_map-entries (named_at g) (edge_entries_of (named_graph g)) (λ node. map edge_entry (wires_into (named_graph g) node)) (λ node. refl) ids (map_of.entries (named_graph g).nodes) order
+      ∙ map-flat_map edge_entry (wires_into (named_graph g)) (map_of.entries (named_graph g).nodes)
+      ∙ ap (map edge_entry) (wires_in_order (named_graph g) wires)

@@ -6,7 +6,7 @@ use Rattle.graph_core.specs.declared.place.NodeId.{NodeId}
 use Rattle.graph_core.specs.Name.{Name}
 use Rattle.graph_core.specs.Node.{Body}
 use Rattle.graph_core.specs.NamedGraph.{NamedGraph}
-use Rattle.graph_core.specs.GraphValue.{GraphValue, by_names, named_at}
+use Rattle.graph_core.specs.GraphValue.{GraphValue, named_graph, named_at}
 use Rattle.graph_print.specs.CanonicalText.{node_entry, edge_entry}
 use Rattle.graph_print.specs.PrintedWires.{wires_into}
 
@@ -24,4 +24,4 @@ edge_entries_of g (Some node) = map edge_entry (wires_into g node)
 
 -- the statements of the wires into a node
 abbrev pub edge_entries_at : GraphValue → NodeId → List DocEdge
-edge_entries_at g id = edge_entries_of (by_names g) (named_at g id)
+edge_entries_at g id = edge_entries_of (named_graph g) (named_at g id)

@@ -5,7 +5,7 @@ ghost use Rattle.std.specs.Prelude.{◌≡◌, ◌++◌, OnOk, IfOk, Some, map};
 ghost use Rattle.std.specs.List.{flat_map};
 ghost use Rattle.std.specs.FinMap as map_of;
 ghost use Rattle.graph_core.specs.Node.{NodeOk};
-ghost use Rattle.graph_core.specs.GraphValue.{by_names, node_at, named, port_named};
+ghost use Rattle.graph_core.specs.GraphValue.{named_graph, node_at, named, port_named};
 ghost use Rattle.graph_print.specs.CanonicalText.{canonical_document, edge_entry};
 ghost use Rattle.graph_print.specs.PrintedWires.{wire_of, wires_into};
 ghost use Rattle.graph_print.specs.DocumentParts.{node_entries_at, edge_entries_at};
@@ -19,7 +19,7 @@ use std::alloc::Global;
 
 /// The document of a graph.
 pub(crate) fn document_of(alloc: Global, g: &Graph) -> Result<Doc, NoMemory>
-    ensures { IfOk result (λ document. document ≡ canonical_document (by_names g.now)) }
+    ensures { IfOk result (λ document. document ≡ canonical_document (named_graph g.now)) }
 {
     let ids = g.by_name(alloc)?;
     let nodes = node_entries(alloc, g, &ids)?;
@@ -84,7 +84,7 @@ fn push_edges_into(
 ) -> Result<(), NoMemory>
     requires live { node_at g.now id ≡ Some node.now }
     requires right { NodeOk node.now }
-    ensures { OnOk result (edges.new.items ≡ edges.old.items ++ map edge_entry (wires_into (by_names g.now) (named node.now))) }
+    ensures { OnOk result (edges.new.items ≡ edges.old.items ++ map edge_entry (wires_into (named_graph g.now) (named node.now))) }
 {
     for port in 1..=inputs(&node.kind) {
         push_edge_into(alloc, edges, g, PortAt { node: id, port }, node)?;
@@ -103,7 +103,7 @@ fn push_edge_into(
     requires live { node_at g.now target.node ≡ Some node.now }
     requires right { NodeOk node.now }
     ensures { let port = port_named g.now target in
-        OnOk result (edges.new.items ≡ edges.old.items ++ map edge_entry (wire_of port (map_of.get (by_names g.now).feeders port))) }
+        OnOk result (edges.new.items ≡ edges.old.items ++ map edge_entry (wire_of port (map_of.get (named_graph g.now).feeders port))) }
 {
     if let Some(source) = g.wire_into(target) {
         if let Some(feeder) = g.node(source.node) {

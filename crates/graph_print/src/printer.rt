@@ -1,7 +1,7 @@
 //! The canonical text of a graph.
 
 ghost use Rattle.std.specs.Prelude.{◌≡◌, IfOk};
-ghost use Rattle.graph_core.specs.GraphValue.{by_names};
+ghost use Rattle.graph_core.specs.GraphValue.{named_graph};
 ghost use Rattle.graph_print.specs.CanonicalText.{text_of};
 
 use crate::document::document_of;
@@ -12,7 +12,7 @@ use std::alloc::Global;
 
 /// The canonical text of a graph. The only error is want of memory.
 pub fn text_of(alloc: Global, g: &Graph) -> Result<Vec<u8>, NoMemory>
-    ensures { IfOk result (λ text. text.items ≡ text_of (by_names g.now)) }
+    ensures { IfOk result (λ text. text.items ≡ text_of (named_graph g.now)) }
 {
     let document = document_of(alloc, g)?;
     print_doc(alloc, &document)

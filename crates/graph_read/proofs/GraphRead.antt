@@ -7,7 +7,7 @@ use Rattle.graph_core.specs.Node.{Body}
 use Rattle.graph_core.specs.NamedGraph.{NamedGraph}
 use Rattle.graph_read.specs.declared.fault.GraphRefusal.{GraphRefusal}
 use Rattle.graph_read.specs.GraphReading.{GraphReading, NodesReading, nodes_reading, edges_reading, first_open, graph_of_nodes, unless, closed, wired, graph_reading}
-use Rattle.graph_read.specs.GraphLaws.{ReadIsNamed}
+use Rattle.graph_read.specs.GraphLaws.{ReadHasAllowedNames}
 use Rattle.graph_read.proofs.NodeRead.{same_answer, refused}
 use Rattle.graph_read.proofs.ReadNodes.{nodes_named}
 use Rattle.graph_read.proofs.ReadWires.{edges_keep_nodes}
@@ -48,7 +48,7 @@ pub has_nodes : (doc : Doc) (g : NamedGraph) (is : IsGraphRead doc g) → g.node
 has_nodes doc g is = edges_keep_nodes (graph_of_nodes is.nodes) 1 doc.edges g is.is_wired
 
 -- names that are read are allowed where the document's texts are UTF-8
-pub read_is_named : ReadIsNamed
+pub read_is_named : ReadHasAllowedNames
 read_is_named doc g texts read name body found =
     let is = graph_is_read doc g read in
     nodes_named doc.nodes is.nodes is.are_read texts.0 name body (ap (λ (m : map.FinMap name_cmp Body). map.get m name) (sym (has_nodes doc g is)) ∙ found)

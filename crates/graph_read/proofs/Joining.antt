@@ -13,7 +13,7 @@ use Rattle.graph_core.specs.Kind.{Shape}
 use Rattle.graph_core.specs.Name.{Port}
 use Rattle.graph_core.specs.Node.{body_of}
 use Rattle.graph_core.specs.NamedGraph.{is_wired}
-use Rattle.graph_core.specs.GraphValue.{GraphValue, node_at, name_of, shape_of, shape_at, by_names, port_named}
+use Rattle.graph_core.specs.GraphValue.{GraphValue, node_at, name_of, shape_of, shape_at, named_graph, port_named}
 use Rattle.graph_core.specs.Wiring.{wire_fault, is_taken, fault_between}
 use Rattle.graph_read.specs.declared.fault.GraphFaultKind.{GraphFaultKind}
 use Rattle.graph_read.specs.declared.fault.GraphFaultKind.TheVariants.{UnknownPort, PortTaken, ShapeDiffers}
@@ -57,10 +57,10 @@ wire_at g source target = record { source = port_named g source; target = port_n
 
 -- the wire between two ports, by names, is what keeps it out by index
 pub same_fault : (g : GraphValue) (source target : PortAt) (a b : Shape) → shape_at g Outs source ≡ Some a → shape_at g Ins target ≡ Some b →
-    is_taken g source target ≡ (is_wired (by_names g) Ins (port_named g target) || is_wired (by_names g) Outs (port_named g source)) →
-    wire_between (by_names g) (Some (port_named g source, a)) (Some (port_named g target, b)) ≡ as_read (wire_at g source target) (wire_fault g source target)
+    is_taken g source target ≡ (is_wired (named_graph g) Ins (port_named g target) || is_wired (named_graph g) Outs (port_named g source)) →
+    wire_between (named_graph g) (Some (port_named g source, a)) (Some (port_named g target, b)) ≡ as_read (wire_at g source target) (wire_fault g source target)
 same_fault g source target a b leaves enters taken =
-    between (wire_at g source target) a b (is_wired (by_names g) Ins (port_named g target) || is_wired (by_names g) Outs (port_named g source))
+    between (wire_at g source target) a b (is_wired (named_graph g) Ins (port_named g target) || is_wired (named_graph g) Outs (port_named g source))
     ∙ (λ i. as_read (wire_at g source target) (fault_between (sym leaves i) (sym enters i) (sym taken i)))
 
 -- The ends of an edge, where both its nodes are found
@@ -72,15 +72,15 @@ module _ (g : GraphValue) (edge : DocEdge) (from to : NodeId) (source_found : Is
   abbrev input : Option (Port × Shape)
   input = port_there Ins edge.target (body_of target_found.node) (last_value (codes "to") edge.pairs)
 
-  read_between : edge_reading (by_names g) edge ≡ wire_between (by_names g) output input
-  read_between = λ i. edge_between (by_names g) edge (source_found.is_there i) (target_found.is_there i)
+  read_between : edge_reading (named_graph g) edge ≡ wire_between (named_graph g) output input
+  read_between = λ i. edge_between (named_graph g) edge (source_found.is_there i) (target_found.is_there i)
 
-  pub no_source : output ≡ None → edge_reading (by_names g) edge ≡ Err UnknownPort
-  no_source none = read_between ∙ ap (λ (o : Option (Port × Shape)). wire_between (by_names g) o input) none
+  pub no_source : output ≡ None → edge_reading (named_graph g) edge ≡ Err UnknownPort
+  no_source none = read_between ∙ ap (λ (o : Option (Port × Shape)). wire_between (named_graph g) o input) none
 
   module _ (source : PortAt) (is_source : IsEnd g from Outs edge.source (body_of source_found.node) (last_value (codes "from") edge.pairs) source) where
-    pub no_target : input ≡ None → edge_reading (by_names g) edge ≡ Err UnknownPort
-    no_target none = read_between ∙ (λ i. wire_between (by_names g) (is_source.is_named i) (none i))
+    pub no_target : input ≡ None → edge_reading (named_graph g) edge ≡ Err UnknownPort
+    no_target none = read_between ∙ (λ i. wire_between (named_graph g) (is_source.is_named i) (none i))
 
     pub has_ends : (target : PortAt) → IsEnd g to Ins edge.target (body_of target_found.node) (last_value (codes "to") edge.pairs) target → HasEnds g edge source target
     has_ends target is_target =
@@ -92,6 +92,6 @@ module _ (g : GraphValue) (edge : DocEdge) (from to : NodeId) (source_found : Is
           leaves = is_source.is_port;
           enters = is_target.is_port;
           is_read =
-              read_between ∙ (λ i. wire_between (by_names g) (is_source.is_named i) (is_target.is_named i))
-              ∙ (λ i. wire_between (by_names g) (Some (record { node = source_name i; port = source.port }, is_source.shape)) (Some (record { node = target_name i; port = target.port }, is_target.shape)));
+              read_between ∙ (λ i. wire_between (named_graph g) (is_source.is_named i) (is_target.is_named i))
+              ∙ (λ i. wire_between (named_graph g) (Some (record { node = source_name i; port = source.port }, is_source.shape)) (Some (record { node = target_name i; port = target.port }, is_target.shape)));
         }

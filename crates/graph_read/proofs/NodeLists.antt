@@ -10,8 +10,8 @@ use Rattle.dot_text.specs.declared.doc.DocNode.{DocNode}
 use Rattle.graph_core.specs.declared.node.Node.{Node}
 use Rattle.graph_core.specs.Name.{Name, name_cmp, IsName}
 use Rattle.graph_core.specs.Node.{Body, body_of}
-use Rattle.graph_core.specs.NamedGraph.{NamedGraph, IsNamed, no_graph, with_node}
-use Rattle.graph_core.specs.GraphValue.{GraphValue, flat, by_names, named, named_nodes}
+use Rattle.graph_core.specs.NamedGraph.{NamedGraph, HasAllowedNames, no_graph, with_node}
+use Rattle.graph_core.specs.GraphValue.{GraphValue, flat, named_graph, named, named_nodes}
 use Rattle.graph_read.specs.NodeReading.{NodeReading, node_reading}
 use Rattle.graph_read.specs.GraphReading.{then_read, names_of, nodes_reading}
 use Rattle.graph_read.specs.GraphSteps.{StandInOrder, HasGained}
@@ -34,10 +34,10 @@ next_read nodes place statement statements body read =
 not_named : (name : Name) (body : Body) → ◌≡◌ {A = Option Body} None (Some body) → ⊥
 not_named name body e = absurd (cc)
 
-pub none_named : IsNamed no_graph
+pub none_named : HasAllowedNames no_graph
 none_named name body found = absurd (not_named name body (sym (map_of.get-empty name_cmp name) ∙ found))
 
-named_more : (g : NamedGraph) (name : Name) (body : Body) → IsNamed g → IsName name → IsNamed (with_node g name body)
+named_more : (g : NamedGraph) (name : Name) (body : Body) → HasAllowedNames g → IsName name → HasAllowedNames (with_node g name body)
 named_more g name body names is_name q b found =
     elim (name_cases q name) [
       | inl same ↦ subst IsName (sym same) is_name
@@ -85,13 +85,13 @@ module _ (old new : GraphValue) (statements : List DocNode) (i : ℕ) (statement
       ∙ sym (map-append (λ (s : DocNode). Some s.name) (take i statements) (statement ∷ []))
       ∙ ap wanted (sym more)
 
-  pub names_more : IsNamed (by_names old) → IsNamed (by_names new)
+  pub names_more : HasAllowedNames (named_graph old) → HasAllowedNames (named_graph new)
   names_more names =
-      subst IsNamed (sym gained.by_name) (named_more (by_names old) statement.name (body_of gained.node) names (subst IsName gained.is_name gained.ok.name))
+      subst HasAllowedNames (sym gained.by_name) (named_more (named_graph old) statement.name (body_of gained.node) names (subst IsName gained.is_name gained.ok.name))
 
-  pub few_more : map_of.len (by_names old).nodes ≤ i → map_of.len (by_names new).nodes ≤ i + 1
+  pub few_more : map_of.len (named_graph old).nodes ≤ i → map_of.len (named_graph new).nodes ≤ i + 1
   few_more few =
-      subst (λ (g : NamedGraph). map_of.len g.nodes ≤ i + 1) (sym gained.by_name) (len_more (by_names old) statement.name (body_of gained.node) i few)
+      subst (λ (g : NamedGraph). map_of.len g.nodes ≤ i + 1) (sym gained.by_name) (len_more (named_graph old) statement.name (body_of gained.node) i few)
 
 -- Nodes that stand in order leave no gap
 

@@ -12,7 +12,7 @@ use Rattle.graph_core.specs.Kind.{Shape, outs, ports}
 use Rattle.graph_core.specs.Name.{Name, Port, port_get}
 use Rattle.graph_core.specs.Node.{Body}
 use Rattle.graph_core.specs.NamedGraph.{NamedGraph, is_wired}
-use Rattle.graph_core.specs.GraphValue.{GraphValue, node_at, flat, shape_of, name_of, named, named_nodes, by_names, port_named}
+use Rattle.graph_core.specs.GraphValue.{GraphValue, node_at, flat, shape_of, name_of, named, named_nodes, named_graph, port_named}
 use Rattle.graph_core.specs.Wiring.{IsFree, IsOpen, IsFirstOpen, ComesBefore}
 use Rattle.graph_read.specs.declared.fault.GraphRefusal.{GraphRefusal}
 use Rattle.graph_read.specs.declared.fault.GraphFaultKind.TheVariants as kind
@@ -112,7 +112,7 @@ got_node g i entry (Some node) live got = record { node = node; live = live; is 
 
 -- The ports of live nodes
 
-module _ (g : GraphValue) (live : AreLive g.slots) (free_is : (side : Side) (p : PortAt) → IsSome (node_at g p.node) → IsFree g side p ↔ (is_wired (by_names g) side (port_named g p) ≡ false)) where
+module _ (g : GraphValue) (live : AreLive g.slots) (free_is : (side : Side) (p : PortAt) → IsSome (node_at g p.node) → IsFree g side p ↔ (is_wired (named_graph g) side (port_named g p) ≡ false)) where
   abbrev open_at : ℕ → Side → ℕ → PortOpen
   open_at i side number = record { node = id_of i; side = side; port = number }
 
@@ -126,55 +126,55 @@ module _ (g : GraphValue) (live : AreLive g.slots) (free_is : (side : Side) (p :
     name_here : (number : ℕ) → port_named g (record { node = id_of i; port = number }) ≡ port_of node.name number
     name_here number = λ j. record { node = ap name_of is_live j; port = number }
 
-    wired_unless_open : (side : Side) (number : ℕ) → 1 ≤ number → number < 1 + length (ports node.kind side) → (IsOpen g (open_at i side number) → ⊥) → is_wired (by_names g) side (port_of node.name number) ≡ true
+    wired_unless_open : (side : Side) (number : ℕ) → 1 ≤ number → number < 1 + length (ports node.kind side) → (IsOpen g (open_at i side number) → ⊥) → is_wired (named_graph g) side (port_of node.name number) ≡ true
     wired_unless_open side number lower upper closed =
-        elim (cases_Bool (is_wired (by_names g) side (port_of node.name number))) [
+        elim (cases_Bool (is_wired (named_graph g) side (port_of node.name number))) [
           | inl wired ↦ wired
           | inr free ↦
               absurd (closed (record {
                 there = ap is_some (ap (λ (o : Option Node). shape_of o side number) is_live) ∙ port_some (ports node.kind side) number lower upper;
-                free = (free_is side (record { node = id_of i; port = number }) live_here).1 (ap (is_wired (by_names g) side) (name_here number) ∙ free);
+                free = (free_is side (record { node = id_of i; port = number }) live_here).1 (ap (is_wired (named_graph g) side) (name_here number) ∙ free);
               }))
         ]
 
-    all_wired : (side : Side) → ((number : ℕ) → IsOpen g (open_at i side number) → ⊥) → first_free (by_names g) side node.name 1 (ports node.kind side) ≡ None
-    all_wired side closed = none_free (by_names g) side node.name 1 (ports node.kind side) (λ j lower upper. wired_unless_open side j lower upper (closed j))
+    all_wired : (side : Side) → ((number : ℕ) → IsOpen g (open_at i side number) → ⊥) → first_free (named_graph g) side node.name 1 (ports node.kind side) ≡ None
+    all_wired side closed = none_free (named_graph g) side node.name 1 (ports node.kind side) (λ j lower upper. wired_unless_open side j lower upper (closed j))
 
-    no_open : ((side : Side) (number : ℕ) → IsOpen g (open_at i side number) → ⊥) → open_port (by_names g) (named node) ≡ None
+    no_open : ((side : Side) (number : ℕ) → IsOpen g (open_at i side number) → ⊥) → open_port (named_graph g) (named node) ≡ None
     no_open closed = λ j. option_or (option_map (λ number. (Ins, number)) (all_wired Ins (closed Ins) j)) (option_map (λ number. (Outs, number)) (all_wired Outs (closed Outs) j))
 
-    first_number : (side : Side) (number : ℕ) → IsOpen g (open_at i side number) → ((k : ℕ) → k < number → IsOpen g (open_at i side k) → ⊥) → first_free (by_names g) side node.name 1 (ports node.kind side) ≡ Some number
+    first_number : (side : Side) (number : ℕ) → IsOpen g (open_at i side number) → ((k : ℕ) → k < number → IsOpen g (open_at i side k) → ⊥) → first_free (named_graph g) side node.name 1 (ports node.kind side) ≡ Some number
     first_number side zero is_open first = absurd (omega (arith, (port_within (ports node.kind side) zero (ap is_some (ap (λ (o : Option Node). shape_of o side zero) (sym is_live)) ∙ is_open.there)).0))
     first_number side (suc k) is_open first =
         let within = port_within (ports node.kind side) (suc k) (ap is_some (ap (λ (o : Option Node). shape_of o side (suc k)) (sym is_live)) ∙ is_open.there) in
         let at : 1 + k ≡ suc k = omega arith in
-        let free : is_wired (by_names g) side (port_of node.name (1 + k)) ≡ false =
-        ap (λ (n : ℕ). is_wired (by_names g) side (port_of node.name n)) at ∙ ap (is_wired (by_names g) side) (sym (name_here (suc k)))
+        let free : is_wired (named_graph g) side (port_of node.name (1 + k)) ≡ false =
+        ap (λ (n : ℕ). is_wired (named_graph g) side (port_of node.name n)) at ∙ ap (is_wired (named_graph g) side) (sym (name_here (suc k)))
         ∙ (free_is side (record { node = id_of i; port = suc k }) live_here).0 is_open.free in
-        found_free (by_names g) side node.name k 1 (ports node.kind side) (omega (arith, within.1))
+        found_free (named_graph g) side node.name k 1 (ports node.kind side) (omega (arith, within.1))
         (λ j lower upper. wired_unless_open side j lower (omega (arith, upper, within.1)) (first j (omega (arith, upper)))) free
         ∙ ap (λ (n : ℕ). Some n) at
 
     first_here : (side : Side) (number : ℕ) → IsOpen g (open_at i side number) → ((s : Side) (k : ℕ) → ComesBefore s k side number → IsOpen g (open_at i s k) → ⊥) →
-        open_port (by_names g) (named node) ≡ Some (side, number)
+        open_port (named_graph g) (named node) ≡ Some (side, number)
     first_here Ins number is_open first =
-        ap (λ (o : Option ℕ). option_or (option_map (λ (n : ℕ). (Ins, n)) o) (option_map (λ (n : ℕ). (Outs, n)) (first_free (by_names g) Outs node.name 1 (outs node.kind))))
+        ap (λ (o : Option ℕ). option_or (option_map (λ (n : ℕ). (Ins, n)) o) (option_map (λ (n : ℕ). (Outs, n)) (first_free (named_graph g) Outs node.name 1 (outs node.kind))))
         (first_number Ins number is_open (λ k before. first Ins k before))
     first_here Outs number is_open first =
         λ j. option_or (option_map (λ (n : ℕ). (Ins, n)) (all_wired Ins (λ k. first Ins k tt) j)) (option_map (λ (n : ℕ). (Outs, n)) (first_number Outs number is_open (λ k before. first Outs k before) j))
 
-  closed_here : (i : ℕ) (entry : Name × Body) → slice_get (named_nodes g.slots) i ≡ Some entry → ((side : Side) (number : ℕ) → IsOpen g (open_at i side number) → ⊥) → open_port (by_names g) entry ≡ None
+  closed_here : (i : ℕ) (entry : Name × Body) → slice_get (named_nodes g.slots) i ≡ Some entry → ((side : Side) (number : ℕ) → IsOpen g (open_at i side number) → ⊥) → open_port (named_graph g) entry ≡ None
   closed_here i entry at closed =
       let got = entry_node i entry at in
-      ap (open_port (by_names g)) (sym got.is) ∙ no_open i got.node got.live closed
+      ap (open_port (named_graph g)) (sym got.is) ∙ no_open i got.node got.live closed
 
-  pub none_open : ((p : PortOpen) → IsOpen g p → ⊥) → first_open (by_names g) 1 (named_nodes g.slots) ≡ None
-  none_open closed = nothing_open (by_names g) 1 (named_nodes g.slots) (λ i entry at. closed_here i entry at (λ side number. closed (open_at i side number)))
+  pub none_open : ((p : PortOpen) → IsOpen g p → ⊥) → first_open (named_graph g) 1 (named_nodes g.slots) ≡ None
+  none_open closed = nothing_open (named_graph g) 1 (named_nodes g.slots) (λ i entry at. closed_here i entry at (λ side number. closed (open_at i side number)))
 
-  pub one_open : (p : PortOpen) (node : Node) → node_at g p.node ≡ Some node → IsFirstOpen g p → first_open (by_names g) 1 (named_nodes g.slots) ≡ Some (opened (1 + index_of p.node) node.name (p.side, p.port))
+  pub one_open : (p : PortOpen) (node : Node) → node_at g p.node ≡ Some node → IsFirstOpen g p → first_open (named_graph g) 1 (named_nodes g.slots) ≡ Some (opened (1 + index_of p.node) node.name (p.side, p.port))
   one_open p node is_live is_first =
       let i = index_of p.node in
-      first_opened (by_names g) i 1 (named_nodes g.slots) (named node) (p.side, p.port) (node_got g.slots live i ∙ ap (option_map named) is_live)
+      first_opened (named_graph g) i 1 (named_nodes g.slots) (named node) (p.side, p.port) (node_got g.slots live i ∙ ap (option_map named) is_live)
       (λ j entry before at. closed_here j entry at (λ side number is_open. is_first.first (open_at j side number) is_open (inl before)))
       (first_here i node is_live p.side p.port is_first.is_open (λ side k before is_open. is_first.first (open_at i side k) is_open (inr (refl, before))))
 

@@ -4,7 +4,7 @@ use Rattle.std.specs.Str.{IsUtf8}
 use Rattle.std.specs.FinMap as map
 use Rattle.dot_text.specs.declared.doc.Doc.{Doc}
 use Rattle.dot_text.specs.Texts.{DocTexts}
-use Rattle.graph_core.specs.NamedGraph.{NamedGraph, IsTyped, IsNamed}
+use Rattle.graph_core.specs.NamedGraph.{NamedGraph, IsTyped, HasAllowedNames}
 use Rattle.graph_read.specs.GraphReading.{graph_reading}
 use Rattle.graph_read.specs.Pure.{has_pure}
 
@@ -13,8 +13,8 @@ abbrev pub ReadIsTyped : Type 0
 ReadIsTyped = (doc : Doc) (g : NamedGraph) → graph_reading doc ≡ Ok g → IsTyped g × (map.len g.nodes ≤ 65536)
 
 -- where the texts of its document are UTF-8 its names are allowed
-abbrev pub ReadIsNamed : Type 0
-ReadIsNamed = (doc : Doc) (g : NamedGraph) → DocTexts IsUtf8 doc → graph_reading doc ≡ Ok g → IsNamed g
+abbrev pub ReadHasAllowedNames : Type 0
+ReadHasAllowedNames = (doc : Doc) (g : NamedGraph) → DocTexts IsUtf8 doc → graph_reading doc ≡ Ok g → HasAllowedNames g
 
 -- no node of its document applies a function
 abbrev pub ReadHasNoPure : Type 0

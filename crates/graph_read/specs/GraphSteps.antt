@@ -13,7 +13,7 @@ use Rattle.graph_core.specs.Kind.{Shape}
 use Rattle.graph_core.specs.Name.{Name, port_get}
 use Rattle.graph_core.specs.Node.{NodeOk, Body, body_of}
 use Rattle.graph_core.specs.NamedGraph.{NamedGraph, with_node, with_wire}
-use Rattle.graph_core.specs.GraphValue.{GraphValue, node_at, shape_at, by_names, port_named, with_slot}
+use Rattle.graph_core.specs.GraphValue.{GraphValue, node_at, shape_at, named_graph, port_named, with_slot}
 use Rattle.graph_read.specs.declared.fault.GraphFault.{GraphFault}
 use Rattle.graph_read.specs.declared.fault.GraphFault.TheVariants as graph_fault
 use Rattle.graph_read.specs.declared.fault.GraphFaultKind.{GraphFaultKind}
@@ -42,7 +42,7 @@ pub record HasGained (read : NodeReading) (name : Name) (place : ℕ) (old new :
   pub is_read : read ≡ Ok (body_of node)
   pub few : place ≤ 65536
   pub is_new : new ≡ with_slot old node
-  pub by_name : by_names new ≡ with_node (by_names old) name (body_of node)
+  pub by_name : named_graph new ≡ with_node (named_graph old) name (body_of node)
 
 -- the node that was read is added, unless memory ran out
 abbrev pub IsAdded : NodeReading → Name → ℕ → GraphValue → GraphValue → Result Unit NodeFault → Type 0
@@ -57,7 +57,7 @@ pub record IsFound (g : GraphValue) (name : Name) (id : NodeId) : Type 0 where
   pub node : Node
   pub live : node_at g id ≡ Some node
   pub is_name : node.name ≡ name
-  pub is_there : map_of.get (by_names g).nodes name ≡ Some (body_of node)
+  pub is_there : map_of.get (named_graph g).nodes name ≡ Some (body_of node)
 
 -- the text names the port of this number
 pub record IsPortThere (side : Side) (text : List ℕ) (shapes : List Shape) (number : ℕ) : Type 0 where
@@ -78,11 +78,11 @@ pub record HasEnds (g : GraphValue) (edge : DocEdge) (source target : PortAt) : 
   pub to : Shape
   pub leaves : shape_at g Outs source ≡ Some from
   pub enters : shape_at g Ins target ≡ Some to
-  pub is_read : edge_reading (by_names g) edge ≡ wire_between (by_names g) (Some (port_named g source, from)) (Some (port_named g target, to))
+  pub is_read : edge_reading (named_graph g) edge ≡ wire_between (named_graph g) (Some (port_named g source, from)) (Some (port_named g target, to))
 
 abbrev pub AreEnds : GraphValue → DocEdge → Result (PortAt × PortAt) NodeFault → Type 0
 AreEnds g edge (Ok ends) = HasEnds g edge ends.0 ends.1
-AreEnds g edge (Err (Refused fault)) = edge_reading (by_names g) edge ≡ Err fault
+AreEnds g edge (Err (Refused fault)) = edge_reading (named_graph g) edge ≡ Err fault
 AreEnds g edge (Err NoMemory) = Unit {0}
 
 -- the wire that was read is added, unless memory ran out

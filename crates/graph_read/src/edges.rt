@@ -2,7 +2,7 @@
 ghost use Rattle.std.specs.Prelude.{◌≡◌, ◌≤◌, length, None, Some, codes, IfOk, IfErr, MatchOption};
 ghost use Rattle.std.specs.FinMap as map_of;
 ghost use Rattle.graph_core.specs.Kind.{Shape, KindOk, ports};
-ghost use Rattle.graph_core.specs.GraphValue.{by_names, port_named, shape_at};
+ghost use Rattle.graph_core.specs.GraphValue.{named_graph, port_named, shape_at};
 ghost use Rattle.graph_core.specs.Name.{Name};
 ghost use Rattle.graph_core.specs.Node.{body_of};
 ghost use Rattle.graph_read.specs.Refusals.{IsRefusal};
@@ -21,7 +21,7 @@ use std::alloc::Global;
 
 /// The node of the graph with this name.
 fn node_named(g: &Graph, name: &[u8]) -> Option<NodeId>
-    ensures { MatchOption result (map_of.get (by_names g.now).nodes name.now ≡ None) (IsFound g.now name.now) }
+    ensures { MatchOption result (map_of.get (named_graph g.now).nodes name.now ≡ None) (IsFound g.now name.now) }
 {
     let id = g.find(name)?;
     g.node(id)?;
@@ -83,7 +83,7 @@ fn ends_of(g: &Graph, edge: &DocEdge) -> Result<(PortAt, PortAt), NodeFault>
 /// Joins an output to an input, which are there.
 fn join(g: &mut Graph, source: PortAt, target: PortAt) -> Result<(), NodeFault>
     ensures joined { (a b : Shape) → shape_at g.old Side.Outs source ≡ Some a → shape_at g.old Side.Ins target ≡ Some b
-        → IsJoined (wire_between (by_names g.old) (Some (port_named g.old source, a)) (Some (port_named g.old target, b))) (by_names g.old) (by_names g.new) result }
+        → IsJoined (wire_between (named_graph g.old) (Some (port_named g.old source, a)) (Some (port_named g.old target, b))) (named_graph g.old) (named_graph g.new) result }
     ensures slots { g.new.slots ≡ g.old.slots }
 {
     match g.add_wire(source, target) {
@@ -97,7 +97,7 @@ fn join(g: &mut Graph, source: PortAt, target: PortAt) -> Result<(), NodeFault>
 
 /// Adds the wire of an edge.
 fn add_edge(g: &mut Graph, edge: &DocEdge) -> Result<(), NodeFault>
-    ensures joined { IsJoined (edge_reading (by_names g.old) edge.now) (by_names g.old) (by_names g.new) result }
+    ensures joined { IsJoined (edge_reading (named_graph g.old) edge.now) (named_graph g.old) (named_graph g.new) result }
     ensures slots { g.new.slots ≡ g.old.slots }
 {
     let (source, target) = ends_of(g, edge)?;
@@ -106,8 +106,8 @@ fn add_edge(g: &mut Graph, edge: &DocEdge) -> Result<(), NodeFault>
 
 /// Adds the wires of edges, or answers the first refusal, with the place of the edge among them, counted from 1, and the name of its target.
 pub(crate) fn add_edges(alloc: Global, g: &mut Graph, edges: &[DocEdge]) -> Result<(), GraphFault>
-    ensures ok { IfOk result (λ _. edges_reading (by_names g.old) 1 edges.now ≡ Ok (by_names g.new)) }
-    ensures refused { IfErr result (IsRefusal (edges_reading (by_names g.old) 1 edges.now)) }
+    ensures ok { IfOk result (λ _. edges_reading (named_graph g.old) 1 edges.now ≡ Ok (named_graph g.new)) }
+    ensures refused { IfErr result (IsRefusal (edges_reading (named_graph g.old) 1 edges.now)) }
     ensures slots { g.new.slots ≡ g.old.slots }
 {
     for (index, edge) in edges.iter().enumerate() {

@@ -1,5 +1,5 @@
 ghost use Rattle.graph_read.specs.Laws.{RowsAreMet, RowsReadBack, DecimalValues, HexadecimalValues, DecimalTags};
-ghost use Rattle.graph_read.specs.GraphLaws.{ReadIsTyped, ReadIsNamed, ReadHasNoPure};
+ghost use Rattle.graph_read.specs.GraphLaws.{ReadIsTyped, ReadHasAllowedNames, ReadHasNoPure};
 
 use op_table::tests_are_the_table;
 use port_types::reads_ports;
@@ -29,7 +29,7 @@ pub fn numbers_read_back()
 /// its document applies a function.
 pub fn read_graphs_are_typed()
     ensures typed { ReadIsTyped }
-    ensures named { ReadIsNamed }
+    ensures named { ReadHasAllowedNames }
     ensures no_pure { ReadHasNoPure }
 {
     reads_ports();

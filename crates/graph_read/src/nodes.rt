@@ -1,8 +1,8 @@
 //! The nodes of statements.
 ghost use Rattle.std.specs.Prelude.{◌≡◌, ◌≤◌, IfOk, IfErr, None, Ok, [], length};
 ghost use Rattle.std.specs.FinMap as map_of;
-ghost use Rattle.graph_core.specs.GraphValue.{by_names, named_nodes};
-ghost use Rattle.graph_core.specs.NamedGraph.{IsNamed};
+ghost use Rattle.graph_core.specs.GraphValue.{named_graph, named_nodes};
+ghost use Rattle.graph_core.specs.NamedGraph.{HasAllowedNames};
 ghost use Rattle.graph_core.specs.Name.{IsName};
 ghost use Rattle.graph_read.specs.Answers.{IsNodeRead};
 ghost use Rattle.graph_read.specs.Refusals.{IsRefusal};
@@ -61,10 +61,10 @@ fn add_statement(
 pub(crate) fn read_nodes(alloc: Global, statements: &[DocNode]) -> Result<Graph, GraphFault>
     ensures ok { IfOk result (λ g. nodes_reading [] 1 statements.now ≡ Ok (named_nodes g.slots)) }
     ensures refused { IfErr result (IsRefusal (nodes_reading [] 1 statements.now)) }
-    ensures names { IfOk result (λ g. by_names g ≡ graph_of_nodes (named_nodes g.slots)) }
+    ensures names { IfOk result (λ g. named_graph g ≡ graph_of_nodes (named_nodes g.slots)) }
     ensures order { IfOk result (λ g. StandInOrder g.slots statements.now) }
-    ensures named { IfOk result (λ g. IsNamed (by_names g)) }
-    ensures few { IfOk result (λ g. map_of.len (by_names g).nodes ≤ 65536) }
+    ensures named { IfOk result (λ g. HasAllowedNames (named_graph g)) }
+    ensures few { IfOk result (λ g. map_of.len (named_graph g).nodes ≤ 65536) }
     ensures limit { IfOk result (λ _. length statements.now ≤ 65536) }
 {
     let mut g = Graph::new(alloc);

@@ -1,6 +1,6 @@
 //! The first port on no wire.
 ghost use Rattle.std.specs.Prelude.{◌≡◌, ◌≤◌, ◌<◌, length, IsSome, None, IfOk, IfErr};
-ghost use Rattle.graph_core.specs.GraphValue.{by_names, named_nodes, node_at};
+ghost use Rattle.graph_core.specs.GraphValue.{named_graph, named_nodes, node_at};
 ghost use Rattle.graph_core.specs.Place.{index_of};
 ghost use Rattle.graph_core.specs.NamedGraph.{IsTyped};
 ghost use Rattle.graph_read.specs.GraphReading.{first_open};
@@ -16,9 +16,9 @@ use std::alloc::Global;
 pub(crate) fn check_open(alloc: Global, g: &Graph) -> Result<(), GraphFault>
     requires live { (id : NodeId) → index_of id < length g.now.slots → IsSome (node_at g.now id) }
     requires few { length g.now.slots ≤ 65536 }
-    ensures ok { IfOk result (λ _. first_open (by_names g.now) 1 (named_nodes g.now.slots) ≡ None) }
-    ensures refused { IfErr result (IsFoundRefusal (first_open (by_names g.now) 1 (named_nodes g.now.slots))) }
-    ensures typed { IfOk result (λ _. IsTyped (by_names g.now)) }
+    ensures ok { IfOk result (λ _. first_open (named_graph g.now) 1 (named_nodes g.now.slots) ≡ None) }
+    ensures refused { IfErr result (IsFoundRefusal (first_open (named_graph g.now) 1 (named_nodes g.now.slots))) }
+    ensures typed { IfOk result (λ _. IsTyped (named_graph g.now)) }
 {
     let Err(open) = check_typed(g) else {
         return Ok(());

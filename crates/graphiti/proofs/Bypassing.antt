@@ -11,7 +11,7 @@ use Rattle.graph_core.specs.Name.{Name, Port, port_get}
 use Rattle.graph_core.specs.Kind.{Shape, ins}
 use Rattle.graph_core.specs.Node.{body_of}
 use Rattle.graph_core.specs.NamedGraph.{NamedGraph, IsTyped, IsWire, CanWire, is_of, with_wire, without_node}
-use Rattle.graph_core.specs.GraphValue.{GraphValue, node_at, name_of, by_names, port_named, with_feeder, without_slot}
+use Rattle.graph_core.specs.GraphValue.{GraphValue, node_at, name_of, named_graph, port_named, with_feeder, without_id}
 use Rattle.module_sem.specs.Buffers.{first_port}
 use Rattle.graphiti.specs.Stripped.{IsBufferKind, IsBuffer}
 use Rattle.graphiti.specs.Strips.{Drops, StaysAtTurn}
@@ -88,7 +88,7 @@ module _ (g : GraphValue) (id : NodeId) (node : Node) (port : PortAt) (at : node
 
 -- the Buffer of this id is fed, and this is its first port
 pub record FedById (g : GraphValue) (id : NodeId) (source port : PortAt) : Type 0 where
-  pub typed : IsTyped (by_names g)
+  pub typed : IsTyped (named_graph g)
   pub is : IsFedBuffer g id source
   pub first : port ≡ record { node = id; port = 1 }
 
@@ -96,9 +96,9 @@ module _ {g : GraphValue} {id : NodeId} {source port : PortAt} (fed : FedById g 
   open fed use {is}
 
   -- the Buffer's output stands on a wire
-  pub feeds_some : (IsSome (node_at g port.node) → (target : Port) → map.get (by_names g).feeders target ≢ Some (port_named g port)) → ⊥
+  pub feeds_some : (IsSome (node_at g port.node) → (target : Port) → map.get (named_graph g).feeders target ≢ Some (port_named g port)) → ⊥
   feeds_some none =
-      let (to, feeds) = buffer_feeds (by_names g) fed.typed is.node.name is.buffer in
+      let (to, feeds) = buffer_feeds (named_graph g) fed.typed is.node.name is.buffer in
       none (first_live g id is.node port is.at fed.first) to (feeds ∙ ap Some (sym (first_named g id is.node port is.at fed.first)))
 
 -- h is g without that Buffer
@@ -106,15 +106,15 @@ pub record Removal (g : GraphValue) (id : NodeId) (source : PortAt) (h : GraphVa
   pub fed : FedById g id source port
   pub removed : Option Node
   pub node : removed ≡ node_at g id
-  pub gone : h ≡ without_slot g id
-  pub names : IfSome removed (λ node. by_names h ≡ without_node (by_names g) node.name)
+  pub gone : h ≡ without_id g id
+  pub names : IfSome removed (λ node. named_graph h ≡ without_node (named_graph g) node.name)
 
 module _ {g : GraphValue} {id : NodeId} {source : PortAt} {h : GraphValue} {port : PortAt} (removal : Removal g id source h port) where
   open removal use {fed}
   open fed use {is, typed}
 
-  without : by_names h ≡ without_node (by_names g) is.node.name
-  without = subst (λ found. IfSome found (λ node. by_names h ≡ without_node (by_names g) node.name)) (removal.node ∙ is.at) removal.names
+  without : named_graph h ≡ without_node (named_graph g) is.node.name
+  without = subst (λ found. IfSome found (λ node. named_graph h ≡ without_node (named_graph g) node.name)) (removal.node ∙ is.at) removal.names
 
   kept : (other : NodeId) → other ≢ id → node_at h other ≡ node_at g other
   kept other apart = ap (λ z. node_at z other) removal.gone ∙ node_without g id other apart
@@ -130,53 +130,53 @@ module _ {g : GraphValue} {id : NodeId} {source : PortAt} {h : GraphValue} {port
   pub source_live : IsSome (node_at h source.node)
   source_live = subst IsSome (sym (kept source.node is.other)) is.live
 
-  module _ (target : PortAt) (wired : map.get (by_names g).feeders (port_named g target) ≡ Some (port_named g port)) where
-    feeds : map.get (by_names g).feeders (port_named g target) ≡ Some (first_port is.node.name)
+  module _ (target : PortAt) (wired : map.get (named_graph g).feeders (port_named g target) ≡ Some (port_named g port)) where
+    feeds : map.get (named_graph g).feeders (port_named g target) ≡ Some (first_port is.node.name)
     feeds = wired ∙ ap Some (first_named g id is.node port is.at fed.first)
 
     apart_target : target.node ≢ id
     apart_target same =
-        target_other (by_names g) typed is.node.name (port_named g source) (port_named g target) is.buffer is.fed feeds source_other (ap (λ other. name_of (node_at g other)) same ∙ ap name_of is.at)
+        target_other (named_graph g) typed is.node.name (port_named g source) (port_named g target) is.buffer is.fed feeds source_other (ap (λ other. name_of (node_at g other)) same ∙ ap name_of is.at)
 
     pub target_live : IsSome (node_at g target.node) → IsSome (node_at h target.node)
     target_live = subst IsSome (sym (kept target.node apart_target))
 
-    pub can_join_ids : CanWire (by_names h) (port_named h source) (port_named h target)
+    pub can_join_ids : CanWire (named_graph h) (port_named h source) (port_named h target)
     can_join_ids =
         subst (λ z. CanWire z (port_named h source) (port_named h target)) (sym without)
-        (subst (λ p. CanWire (without_node (by_names g) is.node.name) p (port_named h target)) (sym (port_kept source is.other))
-        (subst (λ p. CanWire (without_node (by_names g) is.node.name) (port_named g source) p) (sym (port_kept target apart_target))
-        (can_join (by_names g) typed is.node.name (port_named g source) (port_named g target) is.buffer is.fed feeds source_other)))
+        (subst (λ p. CanWire (without_node (named_graph g) is.node.name) p (port_named h target)) (sym (port_kept source is.other))
+        (subst (λ p. CanWire (without_node (named_graph g) is.node.name) (port_named g source) p) (sym (port_kept target apart_target))
+        (can_join (named_graph g) typed is.node.name (port_named g source) (port_named g target) is.buffer is.fed feeds source_other)))
 
-    pub dropped : (k : GraphValue) → by_names k ≡ with_wire (by_names h) (port_named h source) (port_named h target) → IfSome (node_at g id) (λ node. Drops (by_names g) node.name (by_names k))
+    pub dropped : (k : GraphValue) → named_graph k ≡ with_wire (named_graph h) (port_named h source) (port_named h target) → IfSome (node_at g id) (λ node. Drops (named_graph g) node.name (named_graph k))
     dropped k joined =
-        let same : by_names k ≡ with_wire (without_node (by_names g) is.node.name) (port_named g source) (port_named g target) =
+        let same : named_graph k ≡ with_wire (without_node (named_graph g) is.node.name) (port_named g source) (port_named g target) =
         joined ∙ (λ i. with_wire (without i) (port_kept source is.other i) (port_kept target apart_target i)) in
-        subst (λ found. IfSome found (λ node. Drops (by_names g) node.name (by_names k))) (sym is.at)
-        (drops (by_names g) typed is.node.name (port_named g source) (port_named g target) is.buffer is.fed feeds source_other (by_names k) same)
+        subst (λ found. IfSome found (λ node. Drops (named_graph g) node.name (named_graph k))) (sym is.at)
+        (drops (named_graph g) typed is.node.name (port_named g source) (port_named g target) is.buffer is.fed feeds source_other (named_graph k) same)
 
     pub others_kept : (k : GraphValue) → k ≡ with_feeder h source target → (other : NodeId) → other ≢ id → node_at k other ≡ node_at g other
     others_kept k joined other apart = ap (λ z. node_at z other) joined ∙ kept other apart
 
 -- the node of this id is a Buffer, and this its first port
 pub record BufferById (g : GraphValue) (id : NodeId) (node : Node) (port : PortAt) : Type 0 where
-  pub typed : IsTyped (by_names g)
+  pub typed : IsTyped (named_graph g)
   pub at : node_at g id ≡ Some node
   pub shape : Shape
   pub kind : node.kind ≡ Buffer shape
-  pub body : IfSome (node_at g id) (λ node. map.get (by_names g).nodes node.name ≡ Some (body_of node))
+  pub body : IfSome (node_at g id) (λ node. map.get (named_graph g).nodes node.name ≡ Some (body_of node))
   pub first : port ≡ record { node = id; port = 1 }
 
 module _ {g : GraphValue} {id : NodeId} {node : Node} {port : PortAt} (buffer : BufferById g id node port) where
-  found : map.get (by_names g).nodes node.name ≡ Some (body_of node)
-  found = subst (λ there. IfSome there (λ node. map.get (by_names g).nodes node.name ≡ Some (body_of node))) buffer.at buffer.body
+  found : map.get (named_graph g).nodes node.name ≡ Some (body_of node)
+  found = subst (λ there. IfSome there (λ node. map.get (named_graph g).nodes node.name ≡ Some (body_of node))) buffer.at buffer.body
 
-  is_buffer : IsBuffer (by_names g) node.name
+  is_buffer : IsBuffer (named_graph g) node.name
   is_buffer = subst (λ there. IsSomeAnd there (λ body. IsBufferKind body.kind)) (sym found) (subst IsBufferKind (sym buffer.kind) tt)
 
-  module _ (fed : Option PortAt) (names : IsSome (node_at g port.node) → option_map (port_named g) fed ≡ map.get (by_names g).feeders (port_named g port)) where
-    feeder : map.get (by_names g).feeders (first_port node.name) ≡ option_map (port_named g) fed
-    feeder = sym (ap (map.get (by_names g).feeders) (first_named g id node port buffer.at buffer.first)) ∙ sym (names (first_live g id node port buffer.at buffer.first))
+  module _ (fed : Option PortAt) (names : IsSome (node_at g port.node) → option_map (port_named g) fed ≡ map.get (named_graph g).feeders (port_named g port)) where
+    feeder : map.get (named_graph g).feeders (first_port node.name) ≡ option_map (port_named g) fed
+    feeder = sym (ap (map.get (named_graph g).feeders) (first_named g id node port buffer.at buffer.first)) ∙ sym (names (first_live g id node port buffer.at buffer.first))
 
     -- the Buffer's input stands on a wire
     pub fed_some : fed ≢ None
@@ -185,9 +185,9 @@ module _ {g : GraphValue} {id : NodeId} {node : Node} {port : PortAt} (buffer : 
         none-some source (sym (ap (option_map (port_named g)) none) ∙ sym feeder ∙ wired)
 
     -- a Buffer that its own output feeds stays
-    pub stays_itself : (source : PortAt) → fed ≡ Some source → source.node ≡ id → IfSome (node_at g id) (λ node. StaysAtTurn (by_names g) node.name)
+    pub stays_itself : (source : PortAt) → fed ≡ Some source → source.node ≡ id → IfSome (node_at g id) (λ node. StaysAtTurn (named_graph g) node.name)
     stays_itself source is same =
-        let wired : map.get (by_names g).feeders (first_port node.name) ≡ Some (port_named g source) = feeder ∙ ap (option_map (port_named g)) is in
+        let wired : map.get (named_graph g).feeders (first_port node.name) ≡ Some (port_named g source) = feeder ∙ ap (option_map (port_named g)) is in
         let own : (port_named g source).node ≡ node.name = ap (λ other. name_of (node_at g other)) same ∙ ap name_of buffer.at in
-        let itself : port_named g source ≡ first_port node.name = buffer_output (by_names g) buffer.typed node.name is_buffer (first_port node.name) (port_named g source) wired own in
-        subst (λ there. IfSome there (λ node. StaysAtTurn (by_names g) node.name)) (sym buffer.at) (inr (wired ∙ ap Some itself))
+        let itself : port_named g source ≡ first_port node.name = buffer_output (named_graph g) buffer.typed node.name is_buffer (first_port node.name) (port_named g source) wired own in
+        subst (λ there. IfSome there (λ node. StaysAtTurn (named_graph g) node.name)) (sym buffer.at) (inr (wired ∙ ap Some itself))

@@ -14,7 +14,7 @@ use Rattle.std.proofs.lemmas.List.Sums.{list_all-from_AllPass}
 use Rattle.std.proofs.lemmas.Option.{none-some}
 use Rattle.graph_core.specs.Name.{Name, name_cmp, IsName, IsNameByte}
 use Rattle.graph_core.specs.Node.{Body}
-use Rattle.graph_core.specs.NamedGraph.{NamedGraph, IsNamed}
+use Rattle.graph_core.specs.NamedGraph.{NamedGraph, HasAllowedNames}
 use Rattle.graph_print.specs.CanonicalText.{pairs_of, node_entry}
 use Rattle.graph_read.specs.declared.fault.GraphFaultKind.TheVariants.{BadName, NameTaken, TooMany}
 use Rattle.graph_read.specs.NodeReading.{NodeReading, is_name, is_name_byte, body_reading, within_limit, node_reading}
@@ -50,7 +50,7 @@ SaysBodies g = (name : Name) (body : Body) → map_of.get g.nodes name ≡ Some 
 abbrev AreNamesOf : List (Name × Body) → List Name → Type 0
 AreNamesOf nodes names = AllByRecursion (λ name. find name_cmp name nodes ≢ None) names
 
-module _ (g : NamedGraph) (named : IsNamed g) (says : SaysBodies g) (few : map_of.len g.nodes ≤ 65536) where
+module _ (g : NamedGraph) (named : HasAllowedNames g) (says : SaysBodies g) (few : map_of.len g.nodes ≤ 65536) where
   module _ (before : List (Name × Body)) (node : Name × Body) (after : List (Name × Body)) (whole : map_of.entries g.nodes ≡ before ++ node ∷ after) where
     there : map_of.get g.nodes node.0 ≡ Some node.1
     there = found_there name_total name_same g.nodes before node after whole

@@ -3,13 +3,13 @@ use Rattle.std.proofs.Common.{sym, ap, ◌∙◌}
 use Rattle.dot_text.specs.Laws.{OneDocument, StandingPrints, StandingIsUtf8}
 use Rattle.graph_print.specs.CanonicalText.{text_of}
 use Rattle.graph_read.specs.GraphReading.{graph_reading}
-use Rattle.graph_read.specs.GraphLaws.{ReadIsTyped, ReadIsNamed}
+use Rattle.graph_read.specs.GraphLaws.{ReadIsTyped, ReadHasAllowedNames}
 use Rattle.graphiti.specs.CanonicalReading.{ReadFits}
 use Rattle.graphiti.specs.CanonicalTexts.{ReadTexts}
 use Rattle.graphiti.specs.ReadBack.{TextReadsBack, ReadCanBeRead, PrintReadsBack, InputIsOneGraph, PrintOfPrint}
 use Rattle.graphiti.proofs.ReadNodes.{same_answer}
 
-pub read_can_be_read : StandingPrints → StandingIsUtf8 → ReadIsTyped → ReadIsNamed → ReadFits → ReadTexts → ReadCanBeRead
+pub read_can_be_read : StandingPrints → StandingIsUtf8 → ReadIsTyped → ReadHasAllowedNames → ReadFits → ReadTexts → ReadCanBeRead
 read_can_be_read prints utf8 typed named fits texts g bytes input =
     let document = input.document in
     let stands = input.holds.stands in

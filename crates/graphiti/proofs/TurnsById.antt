@@ -8,7 +8,7 @@ use Rattle.graph_core.specs.declared.place.NodeId.{NodeId}
 use Rattle.graph_core.specs.Name.{Name, name_cmp}
 use Rattle.graph_core.specs.Node.{Body}
 use Rattle.graph_core.specs.NamedGraph.{NamedGraph, IsTyped}
-use Rattle.graph_core.specs.GraphValue.{GraphValue, HasName, node_at, named, by_names}
+use Rattle.graph_core.specs.GraphValue.{GraphValue, HasName, node_at, named, named_graph}
 use Rattle.graphiti.specs.Strips.{Turn, Turns}
 use Rattle.graph_core.specs.GraphValue.{AreInOrder}
 use Rattle.graphiti.proofs.Dropping.{turn_typed}
@@ -25,10 +25,10 @@ AreNamed g (id ∷ ids) (name ∷ names) = HasName g id name × AreNamed g ids n
 -- the turns of the ids that are left lead from g to where all turns lead from the start
 pub record Underway (start : NamedGraph) (g : GraphValue) (ids : List NodeId) : Type 0 where
   pub names : List Name
-  pub typed : IsTyped (by_names g)
+  pub typed : IsTyped (named_graph g)
   pub are_named : AreNamed g ids names
   pub rise : Rise names
-  pub leads : (h : NamedGraph) → Turns (by_names g) names h → Turns start (fin.keys start.nodes) h
+  pub leads : (h : NamedGraph) → Turns (named_graph g) names h → Turns start (fin.keys start.nodes) h
 
 -- Before the first turn
 
@@ -42,13 +42,13 @@ named_in_order g [] (entry ∷ entries) is = absurd (cc)
 named_in_order g (id ∷ ids) [] is = absurd (cc)
 named_in_order g (id ∷ ids) (entry ∷ entries) is = (has_name (node_at g id) entry (cc), named_in_order g ids entries (cc))
 
-pub underway_first : (g : GraphValue) (ids : List NodeId) → IsTyped (by_names g) → AreInOrder g ids → Underway (by_names g) g ids
+pub underway_first : (g : GraphValue) (ids : List NodeId) → IsTyped (named_graph g) → AreInOrder g ids → Underway (named_graph g) g ids
 underway_first g ids typed order =
     record {
-      names = fin.keys (by_names g).nodes;
+      names = fin.keys (named_graph g).nodes;
       typed = typed;
-      are_named = named_in_order g ids (fin.entries (by_names g).nodes) order;
-      rise = keys_rise (by_names g).nodes;
+      are_named = named_in_order g ids (fin.entries (named_graph g).nodes) order;
+      rise = keys_rise (named_graph g).nodes;
       leads = λ h turns. turns;
     }
 
@@ -66,24 +66,24 @@ module _ (g h : GraphValue) (id : NodeId) (others : (other : NodeId) → other �
       apart next (inl refl) (sym same ∙ ap (λ (x : Node). x.name) one ∙ here.2) in
       ((node, others other differs ∙ live, same), others_named name here ids names (λ n among. apart n (inr among)) are.1)
 
-  underway_past : (start : NamedGraph) (ids : List NodeId) (names : List Name) → IsTyped (by_names g) → AreNamed g (id ∷ ids) names → Rise names → ((k : NamedGraph) → Turns (by_names g) names k → Turns start (fin.keys start.nodes) k) → IfSome (node_at g id) (λ node. Turn (by_names g) node.name (by_names h)) → Underway start h ids
+  underway_past : (start : NamedGraph) (ids : List NodeId) (names : List Name) → IsTyped (named_graph g) → AreNamed g (id ∷ ids) names → Rise names → ((k : NamedGraph) → Turns (named_graph g) names k → Turns start (fin.keys start.nodes) k) → IfSome (node_at g id) (λ node. Turn (named_graph g) node.name (named_graph h)) → Underway start h ids
   underway_past start ids [] typed are rise leads turned = absurd are
   underway_past start ids (name ∷ names) typed are rise leads turned =
       let (node, live, same) = are.0 in
-      let turn : Turn (by_names g) name (by_names h) = subst (λ n. Turn (by_names g) n (by_names h)) same (subst (λ found. IfSome found (λ node. Turn (by_names g) node.name (by_names h))) live turned) in
+      let turn : Turn (named_graph g) name (named_graph h) = subst (λ n. Turn (named_graph g) n (named_graph h)) same (subst (λ found. IfSome found (λ node. Turn (named_graph g) node.name (named_graph h))) live turned) in
       record {
         names = names;
-        typed = turn_typed (by_names g) (by_names h) name typed turn;
+        typed = turn_typed (named_graph g) (named_graph h) name typed turn;
         are_named = others_named name are.0 ids names (λ other among is. not_less_itself name (ap (name_cmp name) (sym is) ∙ rise.0 other among)) are.1;
         rise = rise.1;
-        leads = λ k turns. leads k (by_names h, turn, turns);
+        leads = λ k turns. leads k (named_graph h, turn, turns);
       }
 
-  underway_next : (start : NamedGraph) (ids : List NodeId) → Underway start g (id ∷ ids) → IfSome (node_at g id) (λ node. Turn (by_names g) node.name (by_names h)) → Underway start h ids
+  underway_next : (start : NamedGraph) (ids : List NodeId) → Underway start g (id ∷ ids) → IfSome (node_at g id) (λ node. Turn (named_graph g) node.name (named_graph h)) → Underway start h ids
   underway_next start ids u = underway_past start ids u.names u.typed u.are_named u.rise u.leads
 
 -- In the loop over the ids
 
-pub underway_more : (start : NamedGraph) (g h : GraphValue) (ids : List NodeId) (i : ℕ) (default : NodeId) → i < length ids → Underway start g (drop i ids) → IfSome (node_at g (get_or ids i default)) (λ node. Turn (by_names g) node.name (by_names h)) → ((other : NodeId) → other ≢ get_or ids i default → node_at h other ≡ node_at g other) → Underway start h (drop (i + 1) ids)
+pub underway_more : (start : NamedGraph) (g h : GraphValue) (ids : List NodeId) (i : ℕ) (default : NodeId) → i < length ids → Underway start g (drop i ids) → IfSome (node_at g (get_or ids i default)) (λ node. Turn (named_graph g) node.name (named_graph h)) → ((other : NodeId) → other ≢ get_or ids i default → node_at h other ≡ node_at g other) → Underway start h (drop (i + 1) ids)
 underway_more start g h ids i default below underway turned others =
     rw add-one (underway_next g h (get_or ids i default) others start (drop (suc i) ids) (subst (Underway start g) (drop-cons ids i default below) underway) turned)

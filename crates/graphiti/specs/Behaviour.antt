@@ -3,7 +3,7 @@ use Rattle.std.specs.Prelude.{List}
 use Rattle.graph_core.specs.Name.{Name}
 use Rattle.graph_core.specs.NamedGraph.{NamedGraph, IsTyped}
 use Rattle.module_sem.specs.Circuit.{circuit_of}
-use Rattle.module_sem.specs.Side.{Token}
+use Rattle.module_sem.specs.PortTokens.{Token}
 use Rattle.module_sem.specs.Refines.{Refines}
 use Rattle.module_sem.specs.Drains.{Drains}
 use Rattle.graphiti.specs.Stripped.{IsStripped}

@@ -4,7 +4,7 @@ use Rattle.std.specs.FinMap as map
 use Rattle.graph_core.specs.declared.node.Node.{Node}
 use Rattle.graph_core.specs.declared.place.NodeId.{NodeId}
 use Rattle.graph_core.specs.declared.place.PortAt.{PortAt}
-use Rattle.graph_core.specs.GraphValue.{GraphValue, HasName, node_at, by_names, port_named}
+use Rattle.graph_core.specs.GraphValue.{GraphValue, HasName, node_at, named_graph, port_named}
 use Rattle.module_sem.specs.Buffers.{first_port}
 use Rattle.graphiti.specs.Stripped.{IsBuffer}
 
@@ -13,7 +13,7 @@ pub record IsFedBuffer (g : GraphValue) (id : NodeId) (source : PortAt) : Type 0
   pub node : Node
   pub at : node_at g id ≡ Some node
   pub alone : (other : NodeId) → HasName g other node.name → other ≡ id
-  pub buffer : IsBuffer (by_names g) node.name
+  pub buffer : IsBuffer (named_graph g) node.name
   pub live : IsSome (node_at g source.node)
-  pub fed : map.get (by_names g).feeders (first_port node.name) ≡ Some (port_named g source)
+  pub fed : map.get (named_graph g).feeders (first_port node.name) ≡ Some (port_named g source)
   pub other : source.node ≢ id

@@ -6,7 +6,7 @@ use Rattle.graph_core.specs.declared.kind.Kind.{Kind}
 use Rattle.graph_core.specs.declared.kind.Kind.TheVariants.{Constant}
 use Rattle.graph_core.specs.Name.{Name}
 use Rattle.graph_core.specs.Node.{Body, IsOwned}
-use Rattle.graph_core.specs.NamedGraph.{NamedGraph, IsTyped, IsNamed}
+use Rattle.graph_core.specs.NamedGraph.{NamedGraph, IsTyped, HasAllowedNames}
 use Rattle.graph_print.specs.CanonicalText.{canonical_document}
 use Rattle.graph_read.specs.GraphReading.{graph_reading}
 
@@ -26,7 +26,7 @@ KeptAreUnowned g =
 -- within the limits of reading
 pub record CanBeReadBack (g : NamedGraph) : Type 0 where
   pub typed : IsTyped g
-  pub names : IsNamed g
+  pub names : HasAllowedNames g
   pub few : map.len g.nodes ≤ 65536
   pub values : ValuesFit g
   pub kept : KeptAreUnowned g

@@ -2,7 +2,7 @@
 ghost use Rattle.std.specs.Prelude.{◌≡◌, ◌≢◌, ℕ, ◌⊎◌, ◌+◌, ◌≤◌, ◌↔◌, None, Some, IfSome, IfOk, length};
 ghost use Rattle.gx_base.specs.Stream.{after, Gave, Rose};
 ghost use Rattle.graph_core.specs.NamedGraph.{IsTyped};
-ghost use Rattle.graph_core.specs.GraphValue.{by_names};
+ghost use Rattle.graph_core.specs.GraphValue.{named_graph};
 ghost use Rattle.graphiti.specs.declared.words.Command.TheVariants.{Later};
 ghost use Rattle.graphiti.specs.Status.{line_of};
 ghost use Rattle.graph_read.specs.declared.fault.GraphRefusal.{GraphRefusal};
@@ -135,10 +135,10 @@ fn answer_input<S: Source, O: Sink>(
 /// Writes the command's answer for a graph.
 fn respond<O: Sink>(alloc: Global, command: Command, g: Graph, out: &mut O) -> Status
     requires reads { Reads (Some command) }
-    requires typed { IsTyped (by_names g) }
-    ensures done { result ≡ Status.Done → WritesAll command (by_names g) (O.taken out.old) (O.taken out.new) }
+    requires typed { IsTyped (named_graph g) }
+    ensures done { result ≡ Status.Done → WritesAll command (named_graph g) (O.taken out.old) (O.taken out.new) }
     ensures write_fault { result ≡ Status.WriteFault → Rose (O.faults out.old) (O.faults out.new)
-        × WritesFront command (by_names g) (O.taken out.old) (O.taken out.new) }
+        × WritesFront command (named_graph g) (O.taken out.old) (O.taken out.new) }
     ensures no_other { result ≢ Status.Done → result ≢ Status.WriteFault → (result ≡ Status.NoMemory) × (out.new ≡ out.old) }
     ensures counts { O.faults out.old ≤ O.faults out.new }
 {
@@ -154,8 +154,8 @@ fn respond<O: Sink>(alloc: Global, command: Command, g: Graph, out: &mut O) -> S
 /// The text of the command's answer for a graph.
 fn answer_text(alloc: Global, command: Command, g: Graph) -> Result<Vec<u8>, NoMemory>
     requires reads { Reads (Some command) }
-    requires typed { IsTyped (by_names g) }
-    ensures { IfOk result (λ text. IsAnswer command (by_names g) text.items) }
+    requires typed { IsTyped (named_graph g) }
+    ensures { IfOk result (λ text. IsAnswer command (named_graph g) text.items) }
 {
     match command {
         Command::Print => text_of(alloc, &g),
@@ -166,8 +166,8 @@ fn answer_text(alloc: Global, command: Command, g: Graph) -> Result<Vec<u8>, NoM
 
 /// The text of the stripped graph.
 fn stripped_text(alloc: Global, g: Graph) -> Result<Vec<u8>, NoMemory>
-    requires { IsTyped (by_names g) }
-    ensures { IfOk result (λ text. IsTextOfStripped (by_names g) text.items) }
+    requires { IsTyped (named_graph g) }
+    ensures { IfOk result (λ text. IsTextOfStripped (named_graph g) text.items) }
 {
     let stripped = strip(alloc, g)?;
     let text = text_of(alloc, &stripped)?;

@@ -2,7 +2,7 @@
 ghost use Rattle.std.specs.Prelude.{◌≡◌, ◌≢◌, IfOk, OnOk, IfSome, IfNone};
 ghost use Rattle.std.specs.FinMap as map_of;
 ghost use Rattle.graph_core.specs.NamedGraph.{IsTyped};
-ghost use Rattle.graph_core.specs.GraphValue.{by_names, node_at};
+ghost use Rattle.graph_core.specs.GraphValue.{named_graph, node_at};
 ghost use Rattle.module_sem.specs.Circuit.{circuit_of};
 ghost use Rattle.module_sem.specs.Refines.{Refines};
 ghost use Rattle.graphiti.specs.Behaviour.{KeepsDrains};
@@ -20,11 +20,11 @@ use std::alloc::Global;
 /// itself. In no surrounding circuit does it show anything that the graph does not. The Buffers are dropped in byte order of their
 /// names, each unless it is wired to itself at its turn. The only error is want of memory; the graph is then given up.
 pub fn strip(alloc: Global, mut g: Graph) -> Result<Graph, NoMemory>
-    requires { IsTyped (by_names g) }
-    ensures stripped { IfOk result (λ stripped. IsStripped (by_names g) (by_names stripped)) }
-    ensures typed { IfOk result (λ stripped. IsTyped (by_names stripped)) }
-    ensures refines { IfOk result (λ stripped. Refines (circuit_of (by_names stripped)) (circuit_of (by_names g))) }
-    ensures drains { IfOk result (λ stripped. KeepsDrains (by_names stripped) (by_names g)) }
+    requires { IsTyped (named_graph g) }
+    ensures stripped { IfOk result (λ stripped. IsStripped (named_graph g) (named_graph stripped)) }
+    ensures typed { IfOk result (λ stripped. IsTyped (named_graph stripped)) }
+    ensures refines { IfOk result (λ stripped. Refines (circuit_of (named_graph stripped)) (circuit_of (named_graph g))) }
+    ensures drains { IfOk result (λ stripped. KeepsDrains (named_graph stripped) (named_graph g)) }
 {
     stripped_refines();
     stripped_drains();
@@ -35,9 +35,9 @@ pub fn strip(alloc: Global, mut g: Graph) -> Result<Graph, NoMemory>
 
 /// Gives each node its turn, in the order of the ids.
 fn drop_buffers(g: &mut Graph, ids: &[NodeId]) -> Result<(), NoMemory>
-    requires typed { IsTyped (by_names g.old) }
+    requires typed { IsTyped (named_graph g.old) }
     requires order { AreInOrder g.old ids.now }
-    ensures { OnOk result (Turns (by_names g.old) (map_of.keys (by_names g.old).nodes) (by_names g.new)) }
+    ensures { OnOk result (Turns (named_graph g.old) (map_of.keys (named_graph g.old).nodes) (named_graph g.new)) }
 {
     for id in ids {
         drop_buffer(g, *id)?;
@@ -47,8 +47,8 @@ fn drop_buffers(g: &mut Graph, ids: &[NodeId]) -> Result<(), NoMemory>
 
 /// Drops the node if it is a Buffer that is not wired to itself: what fed it then feeds what it fed.
 fn drop_buffer(g: &mut Graph, id: NodeId) -> Result<(), NoMemory>
-    requires { IsTyped (by_names g.old) }
-    ensures turn { OnOk result (IfSome (node_at g.old id) (λ node. Turn (by_names g.old) node.name (by_names g.new))) }
+    requires { IsTyped (named_graph g.old) }
+    ensures turn { OnOk result (IfSome (node_at g.old id) (λ node. Turn (named_graph g.old) node.name (named_graph g.new))) }
     ensures others { OnOk result ((other : NodeId) → other ≢ id → node_at g.new other ≡ node_at g.old other) }
 {
     match buffer_source(g, id) {
@@ -59,9 +59,9 @@ fn drop_buffer(g: &mut Graph, id: NodeId) -> Result<(), NoMemory>
 
 /// What feeds the node, where it is a Buffer that is not wired to itself.
 fn buffer_source(g: &Graph, id: NodeId) -> Option<PortAt>
-    requires { IsTyped (by_names g.now) }
+    requires { IsTyped (named_graph g.now) }
     ensures fed { IfSome result (IsFedBuffer g.now id) }
-    ensures stays { IfNone result (IfSome (node_at g.now id) (λ node. StaysAtTurn (by_names g.now) node.name)) }
+    ensures stays { IfNone result (IfSome (node_at g.now id) (λ node. StaysAtTurn (named_graph g.now) node.name)) }
 {
     let Kind::Buffer(_) = g.node(id)?.kind else {
         return None;
@@ -76,9 +76,9 @@ fn buffer_source(g: &Graph, id: NodeId) -> Option<PortAt>
 
 /// Takes the Buffer out, and joins what fed it to what it fed.
 fn bypass(g: &mut Graph, id: NodeId, source: PortAt) -> Result<(), NoMemory>
-    requires typed { IsTyped (by_names g.old) }
+    requires typed { IsTyped (named_graph g.old) }
     requires fed { IsFedBuffer g.old id source }
-    ensures dropped { OnOk result (IfSome (node_at g.old id) (λ node. Drops (by_names g.old) node.name (by_names g.new))) }
+    ensures dropped { OnOk result (IfSome (node_at g.old id) (λ node. Drops (named_graph g.old) node.name (named_graph g.new))) }
     ensures others { OnOk result ((other : NodeId) → other ≢ id → node_at g.new other ≡ node_at g.old other) }
 {
     // Each output of a typed graph stands on a wire.

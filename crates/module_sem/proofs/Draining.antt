@@ -4,12 +4,12 @@ use Rattle.graph_core.specs.declared.kind.Kind.{Kind}
 use Rattle.graph_core.specs.declared.kind.Kind.TheVariants.{Entry, Exit, Buffer, Fork, Init}
 use Rattle.graph_core.specs.Name.{Name, Port}
 use Rattle.module_sem.specs.Each.{Each}
-use Rattle.module_sem.specs.Side.{Token, share, share_from}
+use Rattle.module_sem.specs.PortTokens.{Token, share, share_from}
 use Rattle.module_sem.specs.Circuit.{Circuit, kind_of, Typed}
 use Rattle.module_sem.specs.State.{State, start, initial}
 use Rattle.module_sem.specs.Firing.{Label.Fire}
 use Rattle.module_sem.specs.Run.{Step, Firing, Firings}
-use Rattle.module_sem.specs.Buffers.{first_port, bypass, drop_node, PassesOn, CanDropBuffer}
+use Rattle.module_sem.specs.Buffers.{first_port, bypass, drop_node, IsBufferLike, CanDropBuffer}
 use Rattle.module_sem.specs.Root.{PassesThrough, Root, Root.here, Root.past}
 use Rattle.module_sem.specs.Drains.{IsInit, ComesFromInit, Led, IsRest, put_by, put_on, loaded, IsNoExit, Drains}
 use Rattle.module_sem.proofs.Names.{name_cases}
@@ -27,12 +27,12 @@ init_stays : (k : Kind) → IsInit k → PassesThrough k → ⊥
 init_stays (Init value mark) h p = p
 init_stays _ h p = absurd h
 
-through_of : (k : Kind) → PassesOn k → PassesThrough k
+through_of : (k : Kind) → IsBufferLike k → PassesThrough k
 through_of (Buffer _) h = tt
 through_of (Fork _ _) h = tt
 through_of _ h = absurd h
 
-no_exit : (k : Kind) → PassesOn k → IsNoExit k
+no_exit : (k : Kind) → IsBufferLike k → IsNoExit k
 no_exit (Buffer _) h = tt
 no_exit (Fork _ _) h = tt
 no_exit _ h = absurd h
@@ -243,7 +243,7 @@ module _ (c : Circuit) (b : Name) (cd : CanDropBuffer c b) (ty : Typed c) where
   unfolding holds
   held_alike ins q ne = ap (λ k. initial k ++ put_by ins k q.node) (kind_dropped c b can q.node ne)
 
-  none_by_kind : (ins : Name → List Token) (k : Kind) → PassesOn k → initial (Some k) ++ put_by ins (Some k) b ≡ []
+  none_by_kind : (ins : Name → List Token) (k : Kind) → IsBufferLike k → initial (Some k) ++ put_by ins (Some k) b ≡ []
   none_by_kind ins (Buffer _) h = refl
   none_by_kind ins (Fork _ _) h = refl
   none_by_kind ins _ h = absurd h

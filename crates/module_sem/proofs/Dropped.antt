@@ -7,7 +7,7 @@ use Rattle.graph_core.specs.Name.{Name, Port, port_get}
 use Rattle.graph_core.specs.Kind.{Shape, ins, outs}
 use Rattle.module_sem.specs.Circuit.{Circuit, Wire, Typed}
 use Rattle.module_sem.specs.Refines.{SamePorts, Refines}
-use Rattle.module_sem.specs.Buffers.{bypass, drop_node, PassesOn, CanDropBuffer}
+use Rattle.module_sem.specs.Buffers.{bypass, drop_node, IsBufferLike, CanDropBuffer}
 use Rattle.module_sem.proofs.Names.{name_cases, other_test, same_test}
 use Rattle.module_sem.proofs.Steps.{some_inj}
 use Rattle.module_sem.proofs.Matching.{matches_refines}
@@ -158,7 +158,7 @@ module _ (c : Circuit) (b : Name) (can : CanDrop c b) (ty : Typed c) where
       (record { entries = λ n a. ((drop_ports.entries n a).1, (drop_ports.entries n a).0); exits = λ n a. ((drop_ports.exits n a).1, (drop_ports.exits n a).0) })
       (undrop_matches c b can ty)
 
-plain_of : (k : Kind) → PassesOn k → (a : Shape) × IsPlain k a
+plain_of : (k : Kind) → IsBufferLike k → (a : Shape) × IsPlain k a
 plain_of (Buffer a) h = (a, buffer_plain a)
 plain_of (Fork a k) h = (a, subst (λ z. IsPlain (Fork a z) a) (sym h) (fork_plain a))
 plain_of _ h = absurd h

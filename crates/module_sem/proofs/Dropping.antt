@@ -5,7 +5,7 @@ use Rattle.graph_core.specs.declared.kind.Kind.{Kind}
 use Rattle.graph_core.specs.declared.kind.Kind.TheVariants.{Entry, Buffer, Fork}
 use Rattle.graph_core.specs.Name.{Name, Port, port_get}
 use Rattle.graph_core.specs.Kind.{Shape, ins, outs}
-use Rattle.module_sem.specs.Side.{Token, share, share_from, at_port, one}
+use Rattle.module_sem.specs.PortTokens.{Token, share, share_from, at_port, one}
 use Rattle.module_sem.specs.Circuit.{Circuit, kind_of, Typed}
 use Rattle.module_sem.specs.State.{Slot, State, start, initial}
 use Rattle.module_sem.specs.Firing.{Label, Label.Feed, Label.Take, Label.Fire, Acts, Fires}

@@ -7,7 +7,7 @@ use Rattle.graph_core.specs.declared.kind.Kind.TheVariants.{Exit}
 use Rattle.graph_core.specs.Name.{Name, Port, port_get}
 use Rattle.graph_core.specs.Kind.{Shape, ins, outs}
 use Rattle.module_sem.specs.Each.{Each}
-use Rattle.module_sem.specs.Side.{Token, one, share, share_from, at_port}
+use Rattle.module_sem.specs.PortTokens.{Token, one, share, share_from, at_port}
 use Rattle.module_sem.specs.Circuit.{Circuit, kind_of, Typed}
 use Rattle.module_sem.specs.State.{State, start, initial, SlotFits, TagsDiffer, IsStateOf}
 use Rattle.module_sem.specs.Firing.{Label, Label.Take}

@@ -8,7 +8,7 @@ use Rattle.graph_core.specs.Name.{Name, Port, port_cmp, port_get}
 use Rattle.graph_core.specs.Kind.{ins}
 use Rattle.graph_core.specs.Node.{Body}
 use Rattle.graph_core.specs.NamedGraph.{NamedGraph, IsTyped, is_of, without_node, with_wire}
-use Rattle.module_sem.specs.Side.{Token}
+use Rattle.module_sem.specs.PortTokens.{Token}
 use Rattle.module_sem.specs.Circuit.{Typed, circuit_of, kind_of_body}
 use Rattle.module_sem.specs.Refines.{Refines}
 use Rattle.module_sem.specs.Buffers.{first_port, bypass, drop_node, CanDropBuffer, IsWithoutBuffer}

@@ -5,7 +5,7 @@ use Rattle.graph_core.specs.declared.kind.Kind.{Kind}
 use Rattle.graph_core.specs.declared.kind.Kind.TheVariants.{Entry, Exit, Buffer}
 use Rattle.graph_core.specs.Name.{Name, Port}
 use Rattle.graph_core.specs.Kind.{Shape}
-use Rattle.module_sem.specs.Side.{Token, share, share_from, one}
+use Rattle.module_sem.specs.PortTokens.{Token, share, share_from, one}
 use Rattle.module_sem.specs.Circuit.{Circuit, kind_of}
 use Rattle.module_sem.specs.State.{State, start, initial}
 use Rattle.module_sem.specs.Firing.{Label, Label.Feed, Label.Take, Label.Fire, Acts}

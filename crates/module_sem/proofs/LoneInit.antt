@@ -8,7 +8,7 @@ use Rattle.graph_core.specs.Name.{Name, Port, port_cmp, port_get}
 use Rattle.graph_core.specs.Kind.{Shape, field, ins, outs, KindOk}
 use Rattle.graph_core.specs.NamedGraph.{IsTyped}
 use Rattle.module_sem.specs.Each.{Each}
-use Rattle.module_sem.specs.Side.{Token, single, one, at_port, share, share_from}
+use Rattle.module_sem.specs.PortTokens.{Token, single, one, at_port, share, share_from}
 use Rattle.module_sem.specs.Circuit.{Circuit, Typed, circuit_of, kind_of}
 use Rattle.module_sem.specs.State.{Slot, State, start, initial}
 use Rattle.module_sem.specs.Firing.{Label.Fire, Fires}

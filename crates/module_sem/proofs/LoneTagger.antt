@@ -7,7 +7,7 @@ use Rattle.graph_core.specs.Name.{Name, Port, port_get}
 use Rattle.graph_core.specs.Kind.{Shape, tagged, ins, outs, KindOk}
 use Rattle.graph_core.specs.NamedGraph.{IsTyped}
 use Rattle.module_sem.specs.Each.{Each}
-use Rattle.module_sem.specs.Side.{Token, one}
+use Rattle.module_sem.specs.PortTokens.{Token, one}
 use Rattle.module_sem.specs.Circuit.{Circuit, Typed, circuit_of}
 use Rattle.module_sem.specs.State.{Slot, start}
 use Rattle.module_sem.specs.Firing.{Label.Feed, Label.Take, Label.Fire, waiting, finished}

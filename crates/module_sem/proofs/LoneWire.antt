@@ -9,7 +9,7 @@ use Rattle.graph_core.specs.declared.kind.Kind.TheVariants.{Entry, Exit}
 use Rattle.graph_core.specs.Name.{Name, Port, name_cmp, port_cmp, port_get}
 use Rattle.graph_core.specs.Kind.{Shape, ins, outs, KindOk}
 use Rattle.graph_core.specs.NamedGraph.{no_graph, with_node, IsTyped}
-use Rattle.module_sem.specs.Side.{Token, one, at_port, share, share_from}
+use Rattle.module_sem.specs.PortTokens.{Token, one, at_port, share, share_from}
 use Rattle.module_sem.specs.Circuit.{Circuit, Typed, circuit_of, kind_of, kind_of_body}
 use Rattle.module_sem.specs.State.{State, start, initial}
 use Rattle.module_sem.specs.Firing.{Label, Label.Feed, Label.Take, Label.Fire}

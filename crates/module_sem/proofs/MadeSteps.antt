@@ -3,7 +3,7 @@ use Rattle.std.proofs.Common.{◌≡◌, ℕ, zero, suc, inl, inr, refl, sym, ap
 use Rattle.std.proofs.Math.Seq.{drop-append_seam}
 use Rattle.graph_core.specs.declared.kind.Kind.{Kind}
 use Rattle.graph_core.specs.Name.{Name, Port}
-use Rattle.module_sem.specs.Side.{Token, at_port, share, share_from}
+use Rattle.module_sem.specs.PortTokens.{Token, at_port, share, share_from}
 use Rattle.module_sem.specs.Circuit.{Circuit}
 use Rattle.module_sem.specs.State.{Slot, State}
 use Rattle.module_sem.specs.Firing.{Label, Acts}

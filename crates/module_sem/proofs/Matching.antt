@@ -2,7 +2,7 @@
 use Rattle.std.proofs.Common.{ℕ, subst, List, [], ◌∷◌}
 use Rattle.op_table.specs.Laws.{ValueFits}
 use Rattle.graph_core.specs.Name.{Name}
-use Rattle.module_sem.specs.Side.{Token}
+use Rattle.module_sem.specs.PortTokens.{Token}
 use Rattle.module_sem.specs.Circuit.{Circuit, Typed}
 use Rattle.module_sem.specs.State.{State, start, IsStateOf}
 use Rattle.module_sem.specs.Firing.{Label.Feed, Label.Take, Label.Fire}

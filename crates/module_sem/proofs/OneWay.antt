@@ -8,10 +8,10 @@ use Rattle.graph_core.specs.declared.kind.Kind.{Kind}
 use Rattle.graph_core.specs.declared.kind.Kind.TheVariants.{Entry, Exit, Buffer, Fork, Join, Split, Operator, Constant, Source0, Sink0, Mux, Branch, Merge, CtrlMerge, Init, Tagger}
 use Rattle.graph_core.specs.Name.{Name, Port}
 use Rattle.graph_core.specs.Kind.{Shape}
-use Rattle.module_sem.specs.Side.{Token, single, one, at_port, share, share_from}
+use Rattle.module_sem.specs.PortTokens.{Token, single, one, at_port, share, share_from}
 use Rattle.module_sem.specs.Circuit.{Circuit}
 use Rattle.module_sem.specs.State.{Slot, HasNoTag, TagsDiffer, State, IsStateOf}
-use Rattle.module_sem.specs.Firing.{Label.Fire, FitEach, one_behind, Selects, Leads, waiting, finished, FiresTagger, Fires}
+use Rattle.module_sem.specs.Firing.{Label.Fire, FitEach, one_behind, Selects, FiresBranch, waiting, finished, FiresTagger, Fires}
 use Rattle.module_sem.specs.Run.{Step}
 use Rattle.module_sem.proofs.Names.{name_cases}
 use Rattle.module_sem.proofs.Steps.{acts_at, some_inj, share_same}
@@ -133,7 +133,7 @@ module _ (wire : ℕ → List Token) (choice : ℕ) (old : List Slot) (differ : 
       (later (λ i. wire (suc i)) [] (one v ∷ []) (later wire (one (single 1)) ([] ∷ one v ∷ []) (subst (Stands wire) e h)))
       (later (λ i. wire (suc i)) [] (one w ∷ []) (later wire (one (single 1)) ([] ∷ one w ∷ []) (subst (Stands wire) f k)))) e eg en f fg fn
 
-  branches : (v w : Token) → Leads v taken given → Leads w taken2 given2 → new ≡ old → new2 ≡ old → Same
+  branches : (v w : Token) → FiresBranch v taken given → FiresBranch w taken2 given2 → new ≡ old → new2 ≡ old → Same
   branches v w (inl e) (inl f) en fn =
       by_same (λ z. one z ∷ one (single 1) ∷ []) (λ z. one z ∷ []) v w taken given taken2 given2 new new2 old
       (one_token wire v w (one (single 1) ∷ []) (one (single 1) ∷ []) (subst (Stands wire) e.0 h) (subst (Stands wire) f.0 k)) e.0 e.1 en f.0 f.1 fn

@@ -62,7 +62,7 @@ module _ (rest g : Circuit) (ls : List Link) (tr : Typed rest) (tg : Typed g) (c
       joins : Joins l c g ⊎ Joins l g c
       is : touches rest l ≡ false
 
-    record Leads (l : Link) : Type 0 where
+    record LinkEnds (l : Link) : Type 0 where
       to : ToRest l ⊎ ToPart l
       apart : Each (Distinct l) ls
 
@@ -102,16 +102,16 @@ module _ (rest g : Circuit) (ls : List Link) (tr : Typed rest) (tg : Typed g) (c
           })
         ]
 
-    leads_of : (l : Link) → Joins l c (plug rest ls g) ⊎ Joins l (plug rest ls g) c → Leads l
-    leads_of l (inl j) =
+    ends_of_link : (l : Link) → Joins l c (plug rest ls g) ⊎ Joins l (plug rest ls g) c → LinkEnds l
+    ends_of_link l (inl j) =
         let o = outer_end l.entry (Entry j.shape) tt j.entry in
         record { to = leads_in l j o; apart = two_free l (c_free l.exit (Exit j.shape) j.exit) o.free }
-    leads_of l (inr j) =
+    ends_of_link l (inr j) =
         let o = outer_end l.exit (Exit j.shape) tt j.exit in
         record { to = leads_out l j o; apart = two_free l o.free (c_free l.entry (Entry j.shape) j.entry) }
 
-    leads : Each Leads ms
-    leads = each_map (λ l. Joins l c (plug rest ls g) ⊎ Joins l (plug rest ls g) c) Leads leads_of ms cl.joins
+    leads : Each LinkEnds ms
+    leads = each_map (λ l. Joins l c (plug rest ls g) ⊎ Joins l (plug rest ls g) c) LinkEnds ends_of_link ms cl.joins
 
     abbrev to_rest : List Link
     to_rest = passing (touches rest) ms
@@ -122,17 +122,17 @@ module _ (rest g : Circuit) (ls : List Link) (tr : Typed rest) (tg : Typed g) (c
     rest_links : Each ToRest to_rest
     rest_links =
         each_passing ToRest (touches rest) ms
-        (each_map Leads (λ l. touches rest l ≡ true → ToRest l)
+        (each_map LinkEnds (λ l. touches rest l ≡ true → ToRest l)
         (λ l h e. elim h.to [ inl x ↦ x | inr x ↦ absurd (true≢false (sym e ∙ x.is)) ]) ms leads)
 
     part_links : Each ToPart to_part
     part_links =
         each_passing ToPart (λ l. not (touches rest l)) ms
-        (each_map Leads (λ l. not (touches rest l) ≡ true → ToPart l)
+        (each_map LinkEnds (λ l. not (touches rest l) ≡ true → ToPart l)
         (λ l h e. elim h.to [ inl x ↦ absurd (true≢false (sym e ∙ ap not x.is)) | inr x ↦ x ]) ms leads)
 
     distinct : Each (λ l. Each (Distinct l) ls) ms
-    distinct = each_map Leads (λ l. Each (Distinct l) ls) (λ l h. h.apart) ms leads
+    distinct = each_map LinkEnds (λ l. Each (Distinct l) ls) (λ l h. h.apart) ms leads
 
     part_distinct : Each (λ l. Each (Distinct l) ls) to_part
     part_distinct =

@@ -2,7 +2,7 @@
 use Rattle.std.proofs.Common.{◌≡◌, ℕ, ◌+◌, ◌≤◌, inl, inr, refl, sym, ap, subst, ◌∙◌, bytes_eq, if◌then◌else◌, List, [], ◌∷◌, ◌++◌, length, Option, Some, None}
 use Rattle.graph_core.specs.declared.kind.Kind.{Kind}
 use Rattle.graph_core.specs.Name.{Name, Port}
-use Rattle.module_sem.specs.Side.{Token, share, share_from, at_port}
+use Rattle.module_sem.specs.PortTokens.{Token, share, share_from, at_port}
 use Rattle.module_sem.specs.Circuit.{Circuit, kind_of, Typed}
 use Rattle.module_sem.specs.State.{State, start, initial}
 use Rattle.module_sem.specs.Firing.{Label, Label.Feed, Label.Take, Label.Fire, Acts}

@@ -9,7 +9,7 @@ use Rattle.graph_core.specs.Name.{Name, Port, name_cmp}
 use Rattle.graph_core.specs.Node.{Body}
 use Rattle.graph_core.specs.NamedGraph.{NamedGraph}
 use Rattle.module_sem.specs.Each.{Each}
-use Rattle.module_sem.specs.Side.{Token, one, at_port, share, share_from}
+use Rattle.module_sem.specs.PortTokens.{Token, one, at_port, share, share_from}
 use Rattle.module_sem.specs.Circuit.{Circuit, circuit_of, kind_of, kind_of_body}
 use Rattle.module_sem.specs.State.{Slot, State, start, initial}
 use Rattle.module_sem.specs.Firing.{Label.Fire, Fires}

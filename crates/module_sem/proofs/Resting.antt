@@ -5,7 +5,7 @@ use Rattle.graph_core.specs.declared.kind.Kind.{Kind}
 use Rattle.graph_core.specs.declared.kind.Kind.TheVariants.{Buffer, Fork}
 use Rattle.graph_core.specs.Name.{Name, Port}
 use Rattle.module_sem.specs.Each.{Each}
-use Rattle.module_sem.specs.Side.{Token, one, share, share_from}
+use Rattle.module_sem.specs.PortTokens.{Token, one, share, share_from}
 use Rattle.module_sem.specs.Circuit.{Circuit}
 use Rattle.module_sem.specs.State.{Slot, State, start}
 use Rattle.module_sem.specs.Firing.{Label, Label.Fire, Acts, Fires}

@@ -14,9 +14,9 @@ use Rattle.graph_core.specs.declared.kind.Kind.TheVariants.{Entry, Exit, Buffer,
 use Rattle.graph_core.specs.Name.{port_get}
 use Rattle.graph_core.specs.Kind.{Shape, field, ins, outs, KindOk}
 use Rattle.module_sem.specs.Each.{Each}
-use Rattle.module_sem.specs.Side.{Token, single, one}
+use Rattle.module_sem.specs.PortTokens.{Token, single, one}
 use Rattle.module_sem.specs.State.{Slot, SlotFits, TagsDiffer, initial}
-use Rattle.module_sem.specs.Firing.{Label, Label.Feed, Label.Take, Label.Fire, FitEach, one_behind, Selects, Leads, Acts, Fires}
+use Rattle.module_sem.specs.Firing.{Label, Label.Feed, Label.Take, Label.Fire, FitEach, one_behind, Selects, FiresBranch, Acts, Fires}
 use Rattle.module_sem.proofs.Steps.{some_inj}
 use Rattle.module_sem.proofs.Sides.{SideFits, Kept}
 use Rattle.module_sem.proofs.TaggerRow.{tagger_fits}
@@ -55,7 +55,7 @@ selected_fits : (a : Shape) (v : Token) (taken : List (List Token)) → Selects 
 selected_fits a v taken (inl e) h = let k : SideFits (ins (Mux a)) (one (single 0) ∷ one v ∷ []) = subst (SideFits (ins (Mux a))) e h in k.1.0.0
 selected_fits a v taken (inr e) h = let k : SideFits (ins (Mux a)) (one (single 1) ∷ [] ∷ one v ∷ []) = subst (SideFits (ins (Mux a))) e h in k.1.1.0.0
 
-led_fits : (a : Shape) (v : Token) (taken given : List (List Token)) → Leads v taken given → SideFits (ins (Branch a)) taken → SideFits (outs (Branch a)) given
+led_fits : (a : Shape) (v : Token) (taken given : List (List Token)) → FiresBranch v taken given → SideFits (ins (Branch a)) taken → SideFits (outs (Branch a)) given
 led_fits a v taken given (inl e) h =
     let k : SideFits (ins (Branch a)) (one v ∷ one (single 1) ∷ []) = subst (SideFits (ins (Branch a))) e.0 h in
     subst (SideFits (outs (Branch a))) (sym e.1) ((k.0.0, tt), tt)

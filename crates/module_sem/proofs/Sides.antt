@@ -5,7 +5,7 @@ use Rattle.graph_core.specs.declared.kind.Kind.{Kind}
 use Rattle.graph_core.specs.Name.{port_get}
 use Rattle.graph_core.specs.Kind.{Shape, outs}
 use Rattle.module_sem.specs.Each.{Each}
-use Rattle.module_sem.specs.Side.{Token, at_port}
+use Rattle.module_sem.specs.PortTokens.{Token, at_port}
 use Rattle.module_sem.specs.State.{Slot, SlotFits, TagsDiffer}
 use Rattle.module_sem.proofs.Steps.{some_inj}
 

@@ -4,7 +4,7 @@ use Rattle.port_types.specs.Token.{Fits}
 use Rattle.graph_core.specs.declared.kind.Kind.TheVariants.{Exit}
 use Rattle.graph_core.specs.Name.{Name}
 use Rattle.graph_core.specs.Kind.{Shape}
-use Rattle.module_sem.specs.Side.{Token}
+use Rattle.module_sem.specs.PortTokens.{Token}
 use Rattle.module_sem.specs.Circuit.{Circuit}
 use Rattle.module_sem.specs.State.{State, start}
 use Rattle.module_sem.specs.Firing.{Label, Label.Feed, Label.Take, Label.Fire}

@@ -2,7 +2,7 @@
 use Rattle.std.proofs.Common.{◌≡◌, ◌≢◌, refl, sym, ap, subst, ◌∙◌, true, false, bytes_eq, if◌then◌else◌, List, [], ◌++◌, Option, Some, None, append-nil}
 use Rattle.graph_core.specs.declared.kind.Kind.{Kind}
 use Rattle.graph_core.specs.Name.{Name, Port}
-use Rattle.module_sem.specs.Side.{Token, share, share_from, at_port}
+use Rattle.module_sem.specs.PortTokens.{Token, share, share_from, at_port}
 use Rattle.module_sem.specs.Circuit.{Circuit}
 use Rattle.module_sem.specs.State.{State}
 use Rattle.module_sem.specs.Firing.{Label, Acts}

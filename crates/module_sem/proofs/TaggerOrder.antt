@@ -3,7 +3,7 @@ use Rattle.std.proofs.Common.{◌≡◌, ℕ, zero, suc, inl, inr, refl, sym, ap
 use Rattle.graph_core.specs.declared.kind.Kind.TheVariants.{Tagger}
 use Rattle.graph_core.specs.Name.{Name}
 use Rattle.graph_core.specs.Kind.{Shape}
-use Rattle.module_sem.specs.Side.{Token}
+use Rattle.module_sem.specs.PortTokens.{Token}
 use Rattle.module_sem.specs.Circuit.{Circuit}
 use Rattle.module_sem.specs.State.{Slot, State, start}
 use Rattle.module_sem.specs.Firing.{Label, Label.Feed, Label.Take, Label.Fire, waiting, finished, Acts}

@@ -5,7 +5,7 @@ use Rattle.graph_core.specs.declared.kind.Kind.TheVariants.{Entry, Exit, Tagger}
 use Rattle.graph_core.specs.Name.{Name}
 use Rattle.graph_core.specs.Kind.{Shape, tagged}
 use Rattle.module_sem.specs.Each.{Each}
-use Rattle.module_sem.specs.Side.{Token, one, at_port}
+use Rattle.module_sem.specs.PortTokens.{Token, one, at_port}
 use Rattle.module_sem.specs.Circuit.{Circuit, circuit_of}
 use Rattle.module_sem.specs.State.{Slot, State, start, TagsDiffer}
 use Rattle.module_sem.specs.Firing.{Label, Label.Feed, Label.Take, Label.Fire, waiting, finished, FiresTagger, Acts}

@@ -5,7 +5,7 @@ use Rattle.port_types.specs.Tag.{tag_width, tag_width_from}
 use Rattle.graph_core.specs.declared.kind.Kind.TheVariants.{Tagger}
 use Rattle.graph_core.specs.Kind.{Shape, ins, outs}
 use Rattle.module_sem.specs.Each.{Each}
-use Rattle.module_sem.specs.Side.{Token, one}
+use Rattle.module_sem.specs.PortTokens.{Token, one}
 use Rattle.module_sem.specs.State.{Slot, SlotFits, HasNoTag, TagsDiffer}
 use Rattle.module_sem.specs.Firing.{waiting, finished, FiresTagger}
 use Rattle.module_sem.proofs.Lists.{each_append, each_left, each_right}

@@ -27,16 +27,16 @@ drop_node b c =
     }
 
 -- a Buffer, or a Fork of one output
-abbrev pub PassesOn : Kind → Type 0
-PassesOn (Buffer shape) = Unit {0}
-PassesOn (Fork shape count) = count ≡ 1
-PassesOn _ = ⊥
+abbrev pub IsBufferLike : Kind → Type 0
+IsBufferLike (Buffer shape) = Unit {0}
+IsBufferLike (Fork shape count) = count ≡ 1
+IsBufferLike _ = ⊥
 
 -- b can be left out: it passes tokens on, and is not wired to itself
 pub record CanDropBuffer (c : Circuit) (b : Name) : Type 0 where
   pub kind : Kind
   pub is_kind : c.kind_at b ≡ Some kind
-  pub passes : PassesOn kind
+  pub passes : IsBufferLike kind
   pub before : Port
   pub is_before : c.feeder (first_port b) ≡ Some before
   pub other : before.node ≢ b

@@ -6,7 +6,7 @@ use Rattle.graph_core.specs.declared.kind.Kind.TheVariants.{Entry, Exit, Init}
 use Rattle.graph_core.specs.Name.{Name, Port}
 use Rattle.graph_core.specs.Kind.{Shape}
 use Rattle.module_sem.specs.Each.{Each}
-use Rattle.module_sem.specs.Side.{Token}
+use Rattle.module_sem.specs.PortTokens.{Token}
 use Rattle.module_sem.specs.Circuit.{Circuit}
 use Rattle.module_sem.specs.State.{State, start}
 use Rattle.module_sem.specs.Firing.{Label.Fire}

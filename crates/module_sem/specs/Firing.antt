@@ -6,7 +6,7 @@ use Rattle.port_types.specs.Token.{Fits}
 use Rattle.graph_core.specs.declared.kind.Kind.{Kind}
 use Rattle.graph_core.specs.declared.kind.Kind.TheVariants.{Entry, Exit, Buffer, Fork, Join, Split, Operator, Constant, Source0, Sink0, Mux, Branch, Merge, CtrlMerge, Init, Tagger}
 use Rattle.graph_core.specs.Kind.{Shape}
-use Rattle.module_sem.specs.Side.{Token, single, one}
+use Rattle.module_sem.specs.PortTokens.{Token, single, one}
 use Rattle.module_sem.specs.State.{Slot, HasNoTag}
 
 -- a token is fed to a node or taken from it, or the node fires, with a choice where it has several
@@ -31,8 +31,8 @@ abbrev pub Selects : Token → List (List Token) → Type 0
 Selects v taken = (taken ≡ one (single 0) ∷ one v ∷ []) ⊎ (taken ≡ one (single 1) ∷ [] ∷ one v ∷ [])
 
 -- a Branch takes a token with 1 and gives it at its first output, or with 0 and gives it at its second
-abbrev pub Leads : Token → List (List Token) → List (List Token) → Type 0
-Leads v taken given =
+abbrev pub FiresBranch : Token → List (List Token) → List (List Token) → Type 0
+FiresBranch v taken given =
     ((taken ≡ one v ∷ one (single 1) ∷ []) × (given ≡ one v ∷ [])) ⊎
     ((taken ≡ one v ∷ one (single 0) ∷ []) × (given ≡ [] ∷ one v ∷ []))
 
@@ -80,7 +80,7 @@ Fires (Sink0 shape) choice old taken given new =
 Fires (Mux shape) choice old taken given new =
     (v : Token) × (choice ≡ 0) × Selects v taken × (given ≡ one v ∷ []) × (new ≡ old)
 Fires (Branch shape) choice old taken given new =
-    (v : Token) × (choice ≡ 0) × Leads v taken given × (new ≡ old)
+    (v : Token) × (choice ≡ 0) × FiresBranch v taken given × (new ≡ old)
 Fires (Merge shape count) choice old taken given new =
     (v : Token) × (choice < count) × (taken ≡ one_behind choice v) × (given ≡ one v ∷ []) × (new ≡ old)
 Fires (CtrlMerge shape count width) choice old taken given new =

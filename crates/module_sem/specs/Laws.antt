@@ -8,7 +8,7 @@ use Rattle.graph_core.specs.Name.{Name, Port}
 use Rattle.graph_core.specs.Kind.{Shape, field, KindOk}
 use Rattle.graph_core.specs.NamedGraph.{NamedGraph, IsTyped}
 use Rattle.module_sem.specs.Each.{Each}
-use Rattle.module_sem.specs.Side.{Token, single, one}
+use Rattle.module_sem.specs.PortTokens.{Token, single, one}
 use Rattle.module_sem.specs.Circuit.{Circuit, Typed, circuit_of}
 use Rattle.module_sem.specs.State.{State, start, IsStateOf}
 use Rattle.module_sem.specs.Firing.{Label, Label.Fire}

@@ -1,5 +1,5 @@
 pub mod Each
-pub mod Side
+pub mod PortTokens
 pub mod Circuit
 pub mod State
 pub mod Firing

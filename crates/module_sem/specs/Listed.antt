@@ -3,7 +3,7 @@ use Rattle.std.specs.Prelude.{List, [], ◌∷◌}
 use Rattle.graph_core.specs.declared.kind.Kind.{Kind}
 use Rattle.graph_core.specs.Name.{Name, Port}
 use Rattle.graph_core.specs.NamedGraph.{NamedGraph, no_graph, with_node, with_wire}
-use Rattle.module_sem.specs.Side.{Token}
+use Rattle.module_sem.specs.PortTokens.{Token}
 use Rattle.module_sem.specs.Firing.{Label.Feed, Label.Take}
 use Rattle.module_sem.specs.Run.{Move}
 use Rattle.module_sem.specs.LoneWire.{bare}

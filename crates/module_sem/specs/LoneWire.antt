@@ -7,7 +7,7 @@ use Rattle.graph_core.specs.Name.{Name}
 use Rattle.graph_core.specs.Kind.{Shape}
 use Rattle.graph_core.specs.Node.{Body}
 use Rattle.graph_core.specs.NamedGraph.{NamedGraph, no_graph, with_node, with_wire}
-use Rattle.module_sem.specs.Side.{Token}
+use Rattle.module_sem.specs.PortTokens.{Token}
 use Rattle.module_sem.specs.Firing.{Label.Feed, Label.Take}
 use Rattle.module_sem.specs.Run.{Move}
 use Rattle.module_sem.specs.Buffers.{first_port}

@@ -2,7 +2,7 @@
 use Rattle.std.specs.Prelude.{◌≡◌, ◌≢◌, ℕ, List, [], ◌∷◌, ◌++◌, Some}
 use Rattle.graph_core.specs.declared.kind.Kind.{Kind}
 use Rattle.graph_core.specs.Name.{Name, Port}
-use Rattle.module_sem.specs.Side.{Token, share, share_from}
+use Rattle.module_sem.specs.PortTokens.{Token, share, share_from}
 use Rattle.module_sem.specs.Circuit.{Circuit}
 use Rattle.module_sem.specs.State.{State, start}
 use Rattle.module_sem.specs.Firing.{Label, Label.Feed, Label.Take, Label.Fire, Acts}

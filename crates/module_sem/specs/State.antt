@@ -6,7 +6,7 @@ use Rattle.graph_core.specs.declared.kind.Kind.TheVariants.{Init, Tagger}
 use Rattle.graph_core.specs.Name.{Name, Port, port_get}
 use Rattle.graph_core.specs.Kind.{Shape, ins}
 use Rattle.module_sem.specs.Each.{Each}
-use Rattle.module_sem.specs.Side.{Token, single, one}
+use Rattle.module_sem.specs.PortTokens.{Token, single, one}
 use Rattle.module_sem.specs.Circuit.{Circuit, kind_of}
 
 -- a tag that is in use, with its result or with none yet

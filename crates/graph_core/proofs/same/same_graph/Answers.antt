@@ -1,12 +1,12 @@
 use Rattle.std.proofs.Common.{sym}
-use Rattle.graph_core.specs.GraphValue.{by_names}
+use Rattle.graph_core.specs.GraphValue.{named_graph}
 use Rattle.graph_core.proofs.SameGraphs.{same_where_within, within_where_same}
 use Rattle.graph_core.proofs.same.same_graph.Goals as goal
 
 pub returns-then-is_within : goal.returns-then-is_within
 returns-then-is_within c =
-    let a = by_names c.args.a.now in
-    let b = by_names c.args.b.now in (
+    let a = named_graph c.args.a.now in
+    let b = named_graph c.args.b.now in (
       λ back. same_where_within a b (c.is_within.ensures.0 c.if-is_within.true) (c.is_within-then-is_within.ensures.0 back),
       λ same. c.is_within-then-is_within.ensures.1 (within_where_same b a (sym same)),
     )

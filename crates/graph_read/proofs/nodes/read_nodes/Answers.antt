@@ -4,8 +4,8 @@ use Rattle.std.specs.FinMap as map_of
 use Rattle.graph_core.specs.declared.node.Node.{Node}
 use Rattle.graph_core.specs.Name.{name_cmp}
 use Rattle.graph_core.specs.Node.{Body}
-use Rattle.graph_core.specs.NamedGraph.{NamedGraph, IsNamed}
-use Rattle.graph_core.specs.GraphValue.{by_names, named_nodes}
+use Rattle.graph_core.specs.NamedGraph.{NamedGraph, HasAllowedNames}
+use Rattle.graph_core.specs.GraphValue.{named_graph, named_nodes}
 use Rattle.graph_read.specs.GraphReading.{nodes_reading}
 use Rattle.graph_read.proofs.NodeLists.{none_named, read_more, order_more, names_more, few_more}
 use Rattle.graph_read.proofs.nodes.read_nodes.Goals as goal
@@ -13,12 +13,12 @@ use Rattle.graph_read.proofs.nodes.read_nodes.Goals as goal
 pub loop-index-init : goal.loop-index-init
 loop-index-init c =
     let none = c.new-g.ensures.slots in
-    let len : map_of.len (by_names c.new-g.result).nodes ≡ 0 = ap (λ (g : NamedGraph). map_of.len g.nodes) c.new-g.ensures.names ∙ map_of.len-empty name_cmp Body in
+    let len : map_of.len (named_graph c.new-g.result).nodes ≡ 0 = ap (λ (g : NamedGraph). map_of.len g.nodes) c.new-g.ensures.names ∙ map_of.len-empty name_cmp Body in
     record {
       read = ap (λ (slots : List (Option Node)). nodes_reading (named_nodes slots) 1 c.args.statements.now) (sym none);
       feeders = ap (λ (g : NamedGraph). g.feeders) c.new-g.ensures.names;
       order = ap (λ (slots : List (Option Node)). map (option_map (λ (node : Node). node.name)) slots) none;
-      named = subst IsNamed (sym c.new-g.ensures.names) none_named;
+      named = subst HasAllowedNames (sym c.new-g.ensures.names) none_named;
       few = omega (arith, len);
       limit = omega arith;
     }

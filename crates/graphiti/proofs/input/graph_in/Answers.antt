@@ -1,6 +1,6 @@
 use Rattle.std.proofs.Common.{subst, arith}
 use Rattle.std.proofs.lemmas.Bool.Decides.{nat_tests}
-use Rattle.graph_core.specs.GraphValue.{by_names}
+use Rattle.graph_core.specs.GraphValue.{named_graph}
 use Rattle.graphiti.specs.Input.{FaultAt, unclosed}
 use Rattle.graphiti.proofs.Faults.{more_follows}
 use Rattle.graphiti.proofs.input.graph_in.Goals as goal
@@ -9,9 +9,9 @@ pub returns-in-Ok-2-clause-syntax : goal.returns-in-Ok-2-clause-syntax
 returns-in-Ok-2-clause-syntax c at e =
     let not_end = c.if-place-bytes.false in
     subst (FaultAt c.args.bytes.now) (cc e)
-    (more_follows c.args.bytes.now c.in-Ok.found.0 (by_names c.in_ok-g.g) c.in-Ok.found.1 c.in-Ok-skip_blank.place c.in-Ok.ensures.found c.in_ok-g.ensures.graph c.in-Ok-skip_blank.ensures
+    (more_follows c.args.bytes.now c.in-Ok.found.0 (named_graph c.in_ok-g.g) c.in-Ok.found.1 c.in-Ok-skip_blank.place c.in-Ok.ensures.found c.in_ok-g.ensures.graph c.in-Ok-skip_blank.ensures
     (λ same. absurd (grind (arith, nat_tests, not_end, same))))
 
 pub returns-clause-syntax : goal.returns-clause-syntax
 returns-clause-syntax c at e =
-    subst (FaultAt c.args.bytes.now) (cc e) (unclosed c.in-Ok.found.0 (by_names c.in_ok-g.g) c.in-Ok.found.1 c.in-Ok.ensures.found c.in_ok-g.ensures.graph c.in-Err.ensures)
+    subst (FaultAt c.args.bytes.now) (cc e) (unclosed c.in-Ok.found.0 (named_graph c.in_ok-g.g) c.in-Ok.found.1 c.in-Ok.ensures.found c.in_ok-g.ensures.graph c.in-Err.ensures)

@@ -1,10 +1,10 @@
-use Rattle.graph_core.specs.GraphValue.{by_names}
+use Rattle.graph_core.specs.GraphValue.{named_graph}
 use Rattle.graphiti.proofs.run.stripped_text.Goals as goal
 
 pub returns : goal.returns
 returns c =
     record {
-      stripped = by_names c.in_ok-stripped.stripped;
+      stripped = named_graph c.in_ok-stripped.stripped;
       is_stripped = c.in_ok-stripped.ensures.stripped;
       refines = c.in_ok-stripped.ensures.refines;
       drains = c.in_ok-stripped.ensures.drains;

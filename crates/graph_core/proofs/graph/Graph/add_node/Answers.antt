@@ -1,17 +1,17 @@
 use Rattle.std.proofs.Common.{◌≡◌, ◌∙◌, None, sym, ap, subst}
 use Rattle.std.specs.FinMap as map
 use Rattle.graph_core.specs.declared.place.NodeId.{NodeId}
-use Rattle.graph_core.specs.GraphValue.{IsGraph, HasName, by_names, with_slot}
+use Rattle.graph_core.specs.GraphValue.{IsGraph, HasName, named_graph, with_slot}
 use Rattle.graph_core.specs.Inside.{value_of}
 use Rattle.graph_core.proofs.Known.{at_none, none_by}
 use Rattle.graph_core.proofs.Listed.{none_under}
 use Rattle.graph_core.proofs.KeepsGraph.{IsGraph-with_slot}
-use Rattle.graph_core.proofs.ByNamesAfter.{by_names-with_slot}
+use Rattle.graph_core.proofs.ByNamesAfter.{named_graph-with_slot}
 use Rattle.graph_core.proofs.graph.Graph.add_node.Goals as goal
 use Rattle.graph_core.proofs.graph.Graph.add_node.Goals.{Else-is_some, In-Ok}
 
-no_key : (c : Else-is_some) → map.get (by_names c.args.self.now).nodes c.args.node.name ≡ None
-no_key c = none_by _ (ap (λ name. map.contains_key (by_names c.args.self.now).nodes name) (sym c.bytes.ensures.same) ∙ sym c.find.ensures.names ∙ sym c.is_some.ensures ∙ c.if-is_some.false)
+no_key : (c : Else-is_some) → map.get (named_graph c.args.self.now).nodes c.args.node.name ≡ None
+no_key c = none_by _ (ap (λ name. map.contains_key (named_graph c.args.self.now).nodes name) (sym c.bytes.ensures.same) ∙ sym c.find.ensures.names ∙ sym c.is_some.ensures ∙ c.if-is_some.false)
 
 fresh : (c : Else-is_some) (id : NodeId) → ¬ (HasName c.args.self.now id c.args.node.name)
 fresh c = subst (λ name. (id : NodeId) → ¬ (HasName c.args.self.now id name)) c.bytes.ensures.same (at_none c.find.result _ (none_by c.find.result (sym c.is_some.ensures ∙ c.if-is_some.false)) c.find.ensures.none)
@@ -34,4 +34,4 @@ invariant_of-self-2 c =
 pub returns-clause-names : goal.returns-clause-names
 returns-clause-names c =
     let ok = subst IsGraph c.self.view_is c.self.invariant.0 in
-    ap by_names (value_is c) ∙ by_names-with_slot c.args.self.now ok c.args.node (no_key (goal.at.returns-clause-names c).Else-is_some)
+    ap named_graph (value_is c) ∙ named_graph-with_slot c.args.self.now ok c.args.node (no_key (goal.at.returns-clause-names c).Else-is_some)

@@ -1,10 +1,10 @@
 use Rattle.std.proofs.Common.{◌≡◌, ◌∙◌, rules, sym, ap, subst}
 use Rattle.std.specs.FinMap as map
-use Rattle.graph_core.specs.GraphValue.{IsGraph, by_names, with_feeder}
+use Rattle.graph_core.specs.GraphValue.{IsGraph, named_graph, with_feeder}
 use Rattle.graph_core.specs.Inside.{value_of}
 use Rattle.graph_core.proofs.Faults.{fitting}
 use Rattle.graph_core.proofs.KeepsGraph.{IsGraph-with_feeder}
-use Rattle.graph_core.proofs.ByNamesAfter.{by_names-with_feeder}
+use Rattle.graph_core.proofs.ByNamesAfter.{named_graph-with_feeder}
 use Rattle.graph_core.proofs.Options.{none_some, some_there}
 use Rattle.graph_core.proofs.CanWireByNames.{can_wire_where_fits, fits_where_can_wire}
 use Rattle.graph_core.proofs.WiredByNames.{is_taken_by_names}
@@ -34,7 +34,7 @@ returns-clause-ok c = value_is c
 pub returns-clause-names : goal.returns-clause-names
 returns-clause-names c =
     let ok = subst IsGraph c.self.view_is c.self.invariant.0 in
-    ap by_names (value_is c) ∙ by_names-with_feeder c.args.self.now ok c.args.source c.args.target c.in_ok-try_wire.ensures
+    ap named_graph (value_is c) ∙ named_graph-with_feeder c.args.self.now ok c.args.source c.args.target c.in_ok-try_wire.ensures
 
 pub returns-clause-could : goal.returns-clause-could
 returns-clause-could c = can_wire_where_fits c.args.self.now (subst IsGraph c.self.view_is c.self.invariant.0) c.args.source c.args.target c.in_ok-try_wire.ensures
