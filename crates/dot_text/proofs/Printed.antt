@@ -2,6 +2,7 @@
 use Rattle.std.proofs.Common.{◌≡◌, ℕ, ◌+◌, refl, sym, ap, subst, ◌∙◌, ◌==◌, true, false, ◌&&◌, ◌||◌, List, [], ◌∷◌, ◌++◌, length, drop, codes, bytes_eq, IsUtf8, append-nil, append_assoc, arith, length-append}
 use Rattle.std.proofs.lemmas.Bool.{cond-false, cond_both}
 use Rattle.std.specs.Str.{str_to_ascii_lowercase}
+use Rattle.std.specs.List.{AllByRecursion}
 use Rattle.dot_text.specs.Tokens.{Token, Id, Digraph, Open, Close, OpenList, CloseList, Semicolon, Comma, Equals, Arrow, word_token}
 use Rattle.dot_text.specs.Lexical.{is_blank, all, is_name, Quotes, Quotes.nothing as no_bytes, Quotes.plain, Quotes.quote, Quotes.passed, Spells, Spells.name as bare, Spells.quoted, Spells.arrow, Spells.mark, Skipped.blank, Gap, Gap.none as no_gap, Gap.skip, Lexes, Lexes.none as no_token, Lexes.next}
 use Rattle.dot_text.specs.Grammar.{Pair, Kept, Node, Edge, kept_node, PairEnd.nothing as no_mark, PairEnd.comma, Pairs, Pairs.none as no_pair, Pairs.pair, Lists.none as no_list, Lists.list, End.semicolon as end_semicolon, Name.name as a_name, Statement, Statement.node, Statement.edge, Statements, Statements.none as no_statement, Statements.some, Document, Document.document}
@@ -9,7 +10,7 @@ use Rattle.dot_text.specs.declared.doc.Doc.{Doc}
 use Rattle.dot_text.specs.declared.doc.DocNode.{DocNode}
 use Rattle.dot_text.specs.declared.doc.DocEdge.{DocEdge}
 use Rattle.dot_text.specs.Documents.{nodes_of, edges_of, Stands}
-use Rattle.dot_text.specs.Printing.{escaped, in_quotes, is_id, key_text, pair_text, more_pairs, pairs_text, node_line, edge_line, node_lines, edge_lines, printed, CanBeQuoted, EachOf, PairPrints, NodePrints, EdgePrints, HasPair, DocPrints}
+use Rattle.dot_text.specs.Printing.{escaped, in_quotes, is_id, key_text, pair_text, more_pairs, pairs_text, node_line, edge_line, node_lines, edge_lines, printed, CanBeQuoted, PairPrints, NodePrints, EdgePrints, HasPair, DocPrints}
 use Rattle.dot_text.proofs.Reading.{past_text}
 use Rattle.dot_text.proofs.Prefix.{stands_on}
 use Rattle.dot_text.proofs.Seams.{blanks_cut, token_cut}
@@ -123,14 +124,14 @@ abbrev pairs_tokens : List Pair → List Token
 pairs_tokens [] = []
 pairs_tokens (p ∷ ps) = Id p.0 ∷ Equals ∷ Id p.1 ∷ more_tokens ps
 
-more_writes : {mid rest : List ℕ} {ts : List Token} (ps : List Pair) → EachOf PairPrints ps → Writes mid ts rest → Writes (more_pairs ps ++ mid) (more_tokens ps ++ ts) rest
+more_writes : {mid rest : List ℕ} {ts : List Token} (ps : List Pair) → AllByRecursion PairPrints ps → Writes mid ts rest → Writes (more_pairs ps ++ mid) (more_tokens ps ++ ts) rest
 unfolding NotEmpty
 more_writes [] h w = w
 more_writes {mid = mid} (p ∷ ps) h w =
     mark_writes 44 (mark 44 refl) (blank_writes 32 refl tt
     (bytes_as (sym (append_assoc (pair_text p) (more_pairs ps) mid)) (pair_writes p h.0 (more_writes ps h.1 w))))
 
-pairs_write : {mid rest : List ℕ} {ts : List Token} (ps : List Pair) → EachOf PairPrints ps → Writes mid ts rest → Writes (pairs_text ps ++ mid) (pairs_tokens ps ++ ts) rest
+pairs_write : {mid rest : List ℕ} {ts : List Token} (ps : List Pair) → AllByRecursion PairPrints ps → Writes mid ts rest → Writes (pairs_text ps ++ mid) (pairs_tokens ps ++ ts) rest
 pairs_write [] h w = w
 pairs_write {mid = mid} (p ∷ ps) h w =
     bytes_as (sym (append_assoc (pair_text p) (more_pairs ps) mid)) (pair_writes p h.0 (more_writes ps h.1 w))
@@ -144,7 +145,7 @@ all_pairs [] = no_pair
 all_pairs (p ∷ ps) = pairs_are p ps
 
 -- what stands behind a statement's ends: a list of pairs, and the end of the line
-tail_writes : {mid rest : List ℕ} {ts : List Token} (ps : List Pair) → EachOf PairPrints ps → NotEmpty ts → Writes mid ts rest → Writes (32 ∷ 91 ∷ (pairs_text ps ++ 93 ∷ 59 ∷ 10 ∷ mid)) (OpenList ∷ (pairs_tokens ps ++ CloseList ∷ Semicolon ∷ ts)) rest
+tail_writes : {mid rest : List ℕ} {ts : List Token} (ps : List Pair) → AllByRecursion PairPrints ps → NotEmpty ts → Writes mid ts rest → Writes (32 ∷ 91 ∷ (pairs_text ps ++ 93 ∷ 59 ∷ 10 ∷ mid)) (OpenList ∷ (pairs_tokens ps ++ CloseList ∷ Semicolon ∷ ts)) rest
 unfolding NotEmpty
 tail_writes ps h n w =
     blank_writes 32 refl tt (mark_writes 91 (mark 91 refl)
@@ -187,12 +188,12 @@ unfolding NotEmpty
 some_edges [] ts h = h
 some_edges (e ∷ es) ts h = tt
 
-nodes_write : {mid rest : List ℕ} {ts : List Token} (ns : List DocNode) → EachOf NodePrints ns → NotEmpty ts → Writes mid ts rest → Writes (node_lines ns ++ mid) (nodes_tokens ns ts) rest
+nodes_write : {mid rest : List ℕ} {ts : List Token} (ns : List DocNode) → AllByRecursion NodePrints ns → NotEmpty ts → Writes mid ts rest → Writes (node_lines ns ++ mid) (nodes_tokens ns ts) rest
 nodes_write [] h n w = w
 nodes_write {mid = mid} {ts = ts} (d ∷ ds) h n w =
     bytes_as (sym (append_assoc (node_line d) (node_lines ds) mid)) (node_writes d h.0 (some_nodes ds ts n) (nodes_write ds h.1 n w))
 
-edges_write : {mid rest : List ℕ} {ts : List Token} (es : List DocEdge) → EachOf EdgePrints es → NotEmpty ts → Writes mid ts rest → Writes (edge_lines es ++ mid) (edges_tokens es ts) rest
+edges_write : {mid rest : List ℕ} {ts : List Token} (es : List DocEdge) → AllByRecursion EdgePrints es → NotEmpty ts → Writes mid ts rest → Writes (edge_lines es ++ mid) (edges_tokens es ts) rest
 edges_write [] h n w = w
 edges_write {mid = mid} {ts = ts} (d ∷ ds) h n w =
     bytes_as (sym (append_assoc (edge_line d) (edge_lines ds) mid)) (edge_writes d h.0 (some_edges ds ts n) (edges_write ds h.1 n w))
@@ -209,7 +210,7 @@ kept_some : (a : List ℕ) (ps : List Pair) → HasPair ps → kept_node a (ps +
 kept_some a [] h = absurd h
 kept_some a (p ∷ ps) h = ap (λ z. kept_node a z) (append-nil (p ∷ ps))
 
-nodes_stand : (ns : List DocNode) → EachOf NodePrints ns → {us : List Token} {ls : List Kept} → Statements 64 us ls → Statements 64 (nodes_tokens ns us) (nodes_kept ns ls)
+nodes_stand : (ns : List DocNode) → AllByRecursion NodePrints ns → {us : List Token} {ls : List Kept} → Statements 64 us ls → Statements 64 (nodes_tokens ns us) (nodes_kept ns ls)
 nodes_stand [] h r = r
 nodes_stand (n ∷ ns) h {us = us} {ls = ls} r =
     let line : Statement 64 (Id n.name ∷ (OpenList ∷ pairs_tokens n.pairs ++ CloseList ∷ [])) (Node n.name n.pairs ∷ []) =

@@ -4,13 +4,14 @@ use Rattle.std.proofs.lemmas.Bool.{cond_both}
 use Rattle.std.proofs.lemmas.Bool.Decides.{nat_tests}
 use Rattle.std.proofs.lemmas.Str.{IsUtf8-append, IsUtf8-nil, IsUtf8-from_ascii}
 use Rattle.std.proofs.lemmas.Str.Ascii.{IsAscii-cons, IsAscii-nil}
+use Rattle.std.specs.List.{AllByRecursion}
 use Rattle.dot_text.specs.Tokens.{word_token}
 use Rattle.dot_text.specs.Lexical.{all, is_name}
 use Rattle.dot_text.specs.Grammar.{Pair}
 use Rattle.dot_text.specs.declared.doc.Doc.{Doc}
 use Rattle.dot_text.specs.declared.doc.DocNode.{DocNode}
 use Rattle.dot_text.specs.declared.doc.DocEdge.{DocEdge}
-use Rattle.dot_text.specs.Printing.{escaped, in_quotes, is_id, key_text, pair_text, more_pairs, pairs_text, node_line, edge_line, node_lines, edge_lines, printed, EachOf}
+use Rattle.dot_text.specs.Printing.{escaped, in_quotes, is_id, key_text, pair_text, more_pairs, pairs_text, node_line, edge_line, node_lines, edge_lines, printed}
 use Rattle.dot_text.specs.Texts.{PairTexts, NodeTexts, EdgeTexts, DocTexts}
 use Rattle.dot_text.proofs.Seams.{cut_before}
 use Rattle.dot_text.proofs.Tests.{Both, both}
@@ -52,18 +53,18 @@ pair_utf8 p h =
     IsUtf8-append (key_text p.0) (codes " = " ++ in_quotes (escaped p.1)) (key_utf8 p.0 h.0)
     (IsUtf8-append (codes " = ") (in_quotes (escaped p.1)) (ascii (codes " = ") refl) (quoted_utf8 p.1 h.1))
 
-more_utf8 : (ps : List Pair) → EachOf (PairTexts IsUtf8) ps → IsUtf8 (more_pairs ps)
+more_utf8 : (ps : List Pair) → AllByRecursion (PairTexts IsUtf8) ps → IsUtf8 (more_pairs ps)
 more_utf8 [] h = IsUtf8-nil
 more_utf8 (p ∷ ps) h =
     IsUtf8-append (codes ", ") (pair_text p ++ more_pairs ps) (ascii (codes ", ") refl)
     (IsUtf8-append (pair_text p) (more_pairs ps) (pair_utf8 p h.0) (more_utf8 ps h.1))
 
-pairs_utf8 : (ps : List Pair) → EachOf (PairTexts IsUtf8) ps → IsUtf8 (pairs_text ps)
+pairs_utf8 : (ps : List Pair) → AllByRecursion (PairTexts IsUtf8) ps → IsUtf8 (pairs_text ps)
 pairs_utf8 [] h = IsUtf8-nil
 pairs_utf8 (p ∷ ps) h = IsUtf8-append (pair_text p) (more_pairs ps) (pair_utf8 p h.0) (more_utf8 ps h.1)
 
 -- pairs in brackets, and the end of the line
-tail_utf8 : (ps : List Pair) → EachOf (PairTexts IsUtf8) ps → IsUtf8 (codes " [" ++ (pairs_text ps ++ codes "];\n"))
+tail_utf8 : (ps : List Pair) → AllByRecursion (PairTexts IsUtf8) ps → IsUtf8 (codes " [" ++ (pairs_text ps ++ codes "];\n"))
 tail_utf8 ps h =
     IsUtf8-append (codes " [") (pairs_text ps ++ codes "];\n") (ascii (codes " [") refl)
     (IsUtf8-append (pairs_text ps) (codes "];\n") (pairs_utf8 ps h) (ascii (codes "];\n") refl))
@@ -81,11 +82,11 @@ edge_utf8 e h =
     (IsUtf8-append (codes " -> ") (in_quotes (escaped e.target) ++ last) (ascii (codes " -> ") refl)
     (IsUtf8-append (in_quotes (escaped e.target)) last (quoted_utf8 e.target h.1) (tail_utf8 e.pairs h.2))))
 
-nodes_utf8 : (ns : List DocNode) → EachOf (NodeTexts IsUtf8) ns → IsUtf8 (node_lines ns)
+nodes_utf8 : (ns : List DocNode) → AllByRecursion (NodeTexts IsUtf8) ns → IsUtf8 (node_lines ns)
 nodes_utf8 [] h = IsUtf8-nil
 nodes_utf8 (n ∷ ns) h = IsUtf8-append (node_line n) (node_lines ns) (node_utf8 n h.0) (nodes_utf8 ns h.1)
 
-edges_utf8 : (es : List DocEdge) → EachOf (EdgeTexts IsUtf8) es → IsUtf8 (edge_lines es)
+edges_utf8 : (es : List DocEdge) → AllByRecursion (EdgeTexts IsUtf8) es → IsUtf8 (edge_lines es)
 edges_utf8 [] h = IsUtf8-nil
 edges_utf8 (e ∷ es) h = IsUtf8-append (edge_line e) (edge_lines es) (edge_utf8 e h.0) (edges_utf8 es h.1)
 

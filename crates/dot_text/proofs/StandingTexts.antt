@@ -3,6 +3,7 @@ use Rattle.std.proofs.Common.{◌≡◌, ℕ, refl, sym, subst, ◌==◌, Bool, 
 use Rattle.std.proofs.lemmas.Bool.{cond_both}
 use Rattle.std.proofs.lemmas.Bool.Decides.{nat_tests}
 use Rattle.std.specs.Str.{str_to_ascii_lowercase}
+use Rattle.std.specs.List.{AllByRecursion}
 use Rattle.dot_text.specs.Tokens.{Token, Id, Open, Close, OpenList, CloseList, Semicolon, Comma, Equals, word_token}
 use Rattle.dot_text.specs.Lexical.{is_plain, is_in_name, is_by_numeral, begins_name, all, is_name, is_numeral, is_unsigned, mark_token, Quotes, Quotes.nothing as no_bytes, Quotes.plain, Quotes.quote, Quotes.passed, Spells, Spells.name as bare, Spells.numeral, Spells.quoted, Spells.arrow, Spells.mark, Lexes, Lexes.none as no_token, Lexes.next}
 use Rattle.dot_text.specs.Grammar.{Pair, Kept, Node, Edge, kept_node, Pairs, Pairs.none as no_pair, Pairs.pair, Lists, Lists.none as no_list, Lists.list, Statement, Statement.node, Statement.edge, Statement.default, Statement.set, Statement.subgraph, Statements, Statements.none as no_statement, Statements.some, Document, Document.document}
@@ -10,7 +11,7 @@ use Rattle.dot_text.specs.declared.doc.Doc.{Doc}
 use Rattle.dot_text.specs.declared.doc.DocNode.{DocNode}
 use Rattle.dot_text.specs.declared.doc.DocEdge.{DocEdge}
 use Rattle.dot_text.specs.Documents.{nodes_of, edges_of, doc_of, Stands}
-use Rattle.dot_text.specs.Printing.{CanBeQuoted, EachOf, PairPrints, NodePrints, EdgePrints, HasPair, DocPrints}
+use Rattle.dot_text.specs.Printing.{CanBeQuoted, PairPrints, NodePrints, EdgePrints, HasPair, DocPrints}
 use Rattle.dot_text.specs.Texts.{PairTexts, NodeTexts, EdgeTexts, DocTexts}
 use Rattle.dot_text.proofs.Tests.{Both, both, and_both}
 use Rattle.dot_text.proofs.Scanned.{unsigned_all}
@@ -18,19 +19,19 @@ use Rattle.dot_text.proofs.Quoted.{without_ascii}
 
 -- ---- lists of which each item is so
 
-each_append : {A : Type 0} (P : A → Type 0) (xs ys : List A) → EachOf P xs → EachOf P ys → EachOf P (xs ++ ys)
+each_append : {A : Type 0} (P : A → Type 0) (xs ys : List A) → AllByRecursion P xs → AllByRecursion P ys → AllByRecursion P (xs ++ ys)
 each_append P [] ys h k = k
 each_append P (x ∷ xs) ys h k = (h.0, each_append P xs ys h.1 k)
 
-each_front : {A : Type 0} (P : A → Type 0) (xs ys : List A) → EachOf P (xs ++ ys) → EachOf P xs
+each_front : {A : Type 0} (P : A → Type 0) (xs ys : List A) → AllByRecursion P (xs ++ ys) → AllByRecursion P xs
 each_front P [] ys h = tt
 each_front P (x ∷ xs) ys h = (h.0, each_front P xs ys h.1)
 
-each_back : {A : Type 0} (P : A → Type 0) (xs ys : List A) → EachOf P (xs ++ ys) → EachOf P ys
+each_back : {A : Type 0} (P : A → Type 0) (xs ys : List A) → AllByRecursion P (xs ++ ys) → AllByRecursion P ys
 each_back P [] ys h = h
 each_back P (x ∷ xs) ys h = each_back P xs ys h.1
 
-each_map : {A : Type 0} (P Q : A → Type 0) → ((x : A) → P x → Q x) → (xs : List A) → EachOf P xs → EachOf Q xs
+each_map : {A : Type 0} (P Q : A → Type 0) → ((x : A) → P x → Q x) → (xs : List A) → AllByRecursion P xs → AllByRecursion Q xs
 each_map P Q f [] h = tt
 each_map P Q f (x ∷ xs) h = (f x h.0, each_map P Q f xs h.1)
 
@@ -42,27 +43,27 @@ module _ (P : List ℕ → Type 0) where
   OfToken t = Unit {0}
 
   abbrev pub Ids : List Token → Type 0
-  Ids ts = EachOf OfToken ts
+  Ids ts = AllByRecursion OfToken ts
 
   abbrev OfKept : Kept → Type 0
-  OfKept (Node a ps) = P a × EachOf (PairTexts P) ps × HasPair ps
-  OfKept (Edge a b ps) = P a × P b × EachOf (PairTexts P) ps
+  OfKept (Node a ps) = P a × AllByRecursion (PairTexts P) ps × HasPair ps
+  OfKept (Edge a b ps) = P a × P b × AllByRecursion (PairTexts P) ps
 
-  pairs_texts : {ts : List Token} {ps : List Pair} → Pairs ts ps → Ids ts → EachOf (PairTexts P) ps
+  pairs_texts : {ts : List Token} {ps : List Pair} → Pairs ts ps → Ids ts → AllByRecursion (PairTexts P) ps
   pairs_texts no_pair h = tt
   pairs_texts (pair {end = end} {ts = ts} k v e p) h = ((h.0, h.1.1.0), pairs_texts p (each_back OfToken end ts h.1.1.1))
 
-  lists_texts : {ts : List Token} {ps : List Pair} → Lists ts ps → Ids ts → EachOf (PairTexts P) ps
+  lists_texts : {ts : List Token} {ps : List Pair} → Lists ts ps → Ids ts → AllByRecursion (PairTexts P) ps
   lists_texts no_list h = tt
   lists_texts (list {ts = ts} {us = us} {ps = ps} {qs = qs} p l) h =
       each_append (PairTexts P) ps qs (pairs_texts p (each_front OfToken ts (CloseList ∷ us) h.1)) (lists_texts l (each_back OfToken ts (CloseList ∷ us) h.1).1)
 
-  node_kept : (a : List ℕ) (ps : List Pair) → P a → EachOf (PairTexts P) ps → EachOf OfKept (kept_node a ps)
+  node_kept : (a : List ℕ) (ps : List Pair) → P a → AllByRecursion (PairTexts P) ps → AllByRecursion OfKept (kept_node a ps)
   node_kept a [] h k = tt
   node_kept a (p ∷ ps) h k = ((h, k, tt), tt)
 
   mutual
-    statement_texts : {n : ℕ} {ts : List Token} {ks : List Kept} → Statement n ts ks → Ids ts → EachOf OfKept ks
+    statement_texts : {n : ℕ} {ts : List Token} {ks : List Kept} → Statement n ts ks → Ids ts → AllByRecursion OfKept ks
     statement_texts (node {ps = ps} a l) h = node_kept a ps h.0 (lists_texts l h.1)
     statement_texts (edge a b l) h = ((h.0, h.1.1.0, lists_texts l h.1.1.1), tt)
     statement_texts (default p l) h = tt
@@ -70,30 +71,30 @@ module _ (P : List ℕ → Type 0) where
     statement_texts (subgraph {head = head} {ts = ts} e s) h =
         statements_texts s (each_back OfToken head (Open ∷ ts) (each_front OfToken (head ++ Open ∷ ts) (Close ∷ []) h)).1
 
-    statements_texts : {n : ℕ} {ts : List Token} {ks : List Kept} → Statements n ts ks → Ids ts → EachOf OfKept ks
+    statements_texts : {n : ℕ} {ts : List Token} {ks : List Kept} → Statements n ts ks → Ids ts → AllByRecursion OfKept ks
     statements_texts no_statement h = tt
     statements_texts (some {ts = ts} {end = end} {us = us} {ks = ks} {ls = ls} s e r) h =
         each_append OfKept ks ls (statement_texts s (each_front OfToken ts end (each_front OfToken (ts ++ end) us h))) (statements_texts r (each_back OfToken (ts ++ end) us h))
 
-  document_texts : {ts : List Token} {ks : List Kept} → Document ts ks → Ids ts → EachOf OfKept ks
+  document_texts : {ts : List Token} {ks : List Kept} → Document ts ks → Ids ts → AllByRecursion OfKept ks
   document_texts (document {name = name} {ts = ts} n s) h =
       statements_texts s (each_back OfToken name (Open ∷ ts) (each_front OfToken (name ++ Open ∷ ts) (Close ∷ []) h.1)).1
 
   abbrev OfNode : DocNode → Type 0
   OfNode n = NodeTexts P n × HasPair n.pairs
 
-  nodes_kept : (ks : List Kept) → EachOf OfKept ks → EachOf OfNode (nodes_of ks)
+  nodes_kept : (ks : List Kept) → AllByRecursion OfKept ks → AllByRecursion OfNode (nodes_of ks)
   nodes_kept [] h = tt
   nodes_kept (Node a ps ∷ ks) h = (((h.0.0, h.0.1), h.0.2), nodes_kept ks h.1)
   nodes_kept (Edge a b ps ∷ ks) h = nodes_kept ks h.1
 
-  edges_kept : (ks : List Kept) → EachOf OfKept ks → EachOf (EdgeTexts P) (edges_of ks)
+  edges_kept : (ks : List Kept) → AllByRecursion OfKept ks → AllByRecursion (EdgeTexts P) (edges_of ks)
   edges_kept [] h = tt
   edges_kept (Node a ps ∷ ks) h = edges_kept ks h.1
   edges_kept (Edge a b ps ∷ ks) h = (h.0, edges_kept ks h.1)
 
   abbrev pub OfDocument : Doc → Type 0
-  OfDocument doc = EachOf OfNode doc.nodes × EachOf (EdgeTexts P) doc.edges
+  OfDocument doc = AllByRecursion OfNode doc.nodes × AllByRecursion (EdgeTexts P) doc.edges
 
   pub kept_texts : {ts : List Token} (ks : List Kept) → Document ts ks → Ids ts → OfDocument (doc_of ks)
   kept_texts ks d h = let texts = document_texts d h in (nodes_kept ks texts, edges_kept ks texts)

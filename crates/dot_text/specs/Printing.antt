@@ -1,5 +1,6 @@
 -- The lines of a document, and which documents can be read again from their lines.
 use Rattle.std.specs.Prelude.{ℕ, ◌==◌, Bool, true, false, ◌&&◌, if◌then◌else◌, List, [], ◌∷◌, ◌++◌, codes}
+use Rattle.std.specs.List.{AllByRecursion}
 use Rattle.dot_text.specs.Tokens.{Token, Id, word_token}
 use Rattle.dot_text.specs.Lexical.{is_name, Quotes}
 use Rattle.dot_text.specs.Grammar.{Pair}
@@ -66,11 +67,6 @@ pub record CanBeQuoted (v : List ℕ) : Type 0 where
   pub bytes : List ℕ
   pub quotes : Quotes bytes v
 
--- each item is so
-abbrev pub EachOf : {A : Type 0} → (A → Type 0) → List A → Type 0
-EachOf P [] = Unit {0}
-EachOf P (x ∷ xs) = P x × EachOf P xs
-
 -- key and value can be quoted
 pub record PairPrints (p : Pair) : Type 0 where
   pub key : CanBeQuoted p.0
@@ -84,16 +80,16 @@ HasPair (p ∷ ps) = Unit {0}
 -- the texts of the node can be quoted, and it has a pair
 pub record NodePrints (n : DocNode) : Type 0 where
   pub name : CanBeQuoted n.name
-  pub pairs : EachOf PairPrints n.pairs
+  pub pairs : AllByRecursion PairPrints n.pairs
   pub some : HasPair n.pairs
 
 -- the texts of the edge can be quoted
 pub record EdgePrints (e : DocEdge) : Type 0 where
   pub source : CanBeQuoted e.source
   pub target : CanBeQuoted e.target
-  pub pairs : EachOf PairPrints e.pairs
+  pub pairs : AllByRecursion PairPrints e.pairs
 
 -- every text can be quoted, and every node has a pair
 pub record DocPrints (d : Doc) : Type 0 where
-  pub nodes : EachOf NodePrints d.nodes
-  pub edges : EachOf EdgePrints d.edges
+  pub nodes : AllByRecursion NodePrints d.nodes
+  pub edges : AllByRecursion EdgePrints d.edges

@@ -1,7 +1,7 @@
 -- What nodes that are read have. That a node is one of a list is said by `Contains`.
 use Rattle.std.proofs.Common.{◌≡◌, ◌≢◌, ℕ, ◌+◌, ◌≤◌, suc, Bool, true, false, cond, ◌||◌, List, [], ◌∷◌, ◌++◌, length, length-append, le_trans, All, Contains, Some, Ok, Err, refl, sym, ap, subst, ◌∙◌, arith}
 use Rattle.std.specs.Prelude.{bytes_eq}
-use Rattle.std.specs.List.{AllPairs, list_any}
+use Rattle.std.specs.List.{AllPairs, list_any, AllByRecursion}
 use Rattle.std.specs.Cmp.{Equal-is}
 use Rattle.std.specs.FinMap as map
 use Rattle.std.specs.Str.{IsUtf8}
@@ -13,7 +13,6 @@ use Rattle.std.proofs.lemmas.Slice.Eq.{bytes_eq-Decides}
 use Rattle.port_types.specs.PortLaws.{ReadsPorts}
 use Rattle.dot_text.specs.declared.doc.DocNode.{DocNode}
 use Rattle.dot_text.specs.Texts.{NodeTexts}
-use Rattle.dot_text.specs.Printing.{EachOf}
 use Rattle.graph_core.specs.Kind.{KindOk}
 use Rattle.graph_core.specs.Name.{Name, name_cmp, IsName}
 use Rattle.graph_core.specs.Node.{Body}
@@ -42,14 +41,14 @@ module _ (Known : DocNode → Type 0) (Holds : List (Name × Body) → ℕ → T
   one_on nodes place statement statements all known holds later (Ok body) is read =
       later (nodes ++ (statement.name, body) ∷ []) (next nodes place statement body known holds (node_is_read (names_of nodes) place statement body is)) read
 
-  holds_on : (nodes : List (Name × Body)) (place : ℕ) (statements : List DocNode) (all : List (Name × Body)) → EachOf Known statements → Holds nodes place →
+  holds_on : (nodes : List (Name × Body)) (place : ℕ) (statements : List DocNode) (all : List (Name × Body)) → AllByRecursion Known statements → Holds nodes place →
       nodes_reading nodes place statements ≡ Ok all → AtEnd all
   holds_on nodes place [] all known holds read = (place, subst (λ (found : List (Name × Body)). Holds found place) (same_answer nodes all read) holds)
   holds_on nodes place (statement ∷ statements) all known holds read =
       one_on nodes place statement statements all known.0 holds (λ more behind. holds_on more (place + 1) statements all known.1 behind)
       (node_reading (names_of nodes) place statement) refl read
 
-nothing_known : (statements : List DocNode) → EachOf (λ statement. Unit {0}) statements
+nothing_known : (statements : List DocNode) → AllByRecursion (λ statement. Unit {0}) statements
 nothing_known [] = tt
 nothing_known (statement ∷ statements) = (tt, nothing_known statements)
 
@@ -63,7 +62,7 @@ nodes_entries nodes name body found =
 -- what holds of each node that is read holds of what is found under a name
 module _ (Known : DocNode → Type 0) (IsSo : Name × Body → Type 0)
     (tells : (earlier : List Name) (place : ℕ) (statement : DocNode) (body : Body) → Known statement → IsRead earlier place statement body → IsSo (statement.name, body))
-    (statements : List DocNode) (nodes : List (Name × Body)) (known : EachOf Known statements) (read : nodes_reading [] 1 statements ≡ Ok nodes) where
+    (statements : List DocNode) (nodes : List (Name × Body)) (known : AllByRecursion Known statements) (read : nodes_reading [] 1 statements ≡ Ok nodes) where
   each_so : All IsSo nodes
   each_so =
       (holds_on Known (λ before place. All IsSo before)
@@ -81,7 +80,7 @@ nodes_kinds statements nodes read says_ports rows =
     (nothing_known statements) read
 
 -- each name that is read is allowed
-pub nodes_named : (statements : List DocNode) (nodes : List (Name × Body)) → nodes_reading [] 1 statements ≡ Ok nodes → EachOf (NodeTexts IsUtf8) statements →
+pub nodes_named : (statements : List DocNode) (nodes : List (Name × Body)) → nodes_reading [] 1 statements ≡ Ok nodes → AllByRecursion (NodeTexts IsUtf8) statements →
     (name : Name) (body : Body) → map.get (map.from_entries {R = name_cmp} nodes) name ≡ Some body → IsName name
 nodes_named statements nodes read texts =
     found_so (NodeTexts IsUtf8) (λ node. IsName node.0) (λ earlier place statement body known is. name_to statement.name known.0 is.named) statements nodes texts read

@@ -20,7 +20,7 @@ use Rattle.port_types.specs.PortText.{side_word}
 use Rattle.port_types.specs.PortGrammar.{reading, text_behind}
 use Rattle.port_types.specs.PortLaws.{ArePorts, ReadsPorts}
 use Rattle.dot_text.specs.declared.doc.Doc.{Doc}
-use Rattle.dot_text.specs.Printing.{CanBeQuoted, EachOf, PairPrints, NodePrints}
+use Rattle.dot_text.specs.Printing.{CanBeQuoted, PairPrints, NodePrints}
 use Rattle.dot_text.specs.Texts.{PairTexts, NodeTexts}
 use Rattle.dot_text.specs.declared.doc.DocNode.{DocNode}
 use Rattle.dot_text.specs.declared.doc.DocEdge.{DocEdge}
@@ -95,13 +95,13 @@ module _ (P : List ℕ → Type 0) (IsSo : Pair → Type 0) (texts : (pair : Pai
   at_last None pair true is so behind e = (subst P ((bytes_eq-Decides pair.0 key).0 is) (texts pair so).0, subst P (same_Some pair.1 value e) (texts pair so).1)
   at_last None pair false is so behind e = absurd (none-some value e)
 
-  last_is_so : (pairs : List Pair) → EachOf IsSo pairs → last_value key pairs ≡ Some value → P key × P value
+  last_is_so : (pairs : List Pair) → AllByRecursion IsSo pairs → last_value key pairs ≡ Some value → P key × P value
   last_is_so [] each e = absurd (none-some value e)
   last_is_so (pair ∷ pairs) each e = at_last (last_value key pairs) pair (bytes_eq pair.0 key) refl each.0 (last_is_so pairs each.1) e
 
 -- ---- statements
 
-each_known : (nodes : List DocNode) → EachOf (λ node. Unit {0}) nodes
+each_known : (nodes : List DocNode) → AllByRecursion (λ node. Unit {0}) nodes
 each_known [] = tt
 each_known (node ∷ nodes) = (tt, each_known nodes)
 
@@ -200,7 +200,7 @@ module _ (says_ports : ReadsPorts) (rows : RowsAreMet) where
     more_fit place name (Err fault) more nodes p q e = refused (refusal fault place name) nodes e
     more_fit place name (Ok body) more nodes p q e = q body (p body refl) e
 
-    nodes_fit : (before : List (Name × Body)) (place : ℕ) (statements : List DocNode) → EachOf (λ node. Known node.pairs) statements → NodesFit before → (nodes : List (Name × Body)) →
+    nodes_fit : (before : List (Name × Body)) (place : ℕ) (statements : List DocNode) → AllByRecursion (λ node. Known node.pairs) statements → NodesFit before → (nodes : List (Name × Body)) →
         nodes_reading before place statements ≡ Ok nodes → NodesFit nodes
     nodes_fit before place [] known fit nodes e = subst NodesFit (same_answer before nodes e) fit
     nodes_fit before place (node ∷ statements) known fit nodes e =
@@ -229,7 +229,7 @@ module _ (says_ports : ReadsPorts) (rows : RowsAreMet) where
     wired_fits edges (Err fault) g fit e = refused fault g e
     wired_fits edges (Ok nodes) g fit e = closed_fits nodes edges (edges_reading (graph_of_nodes nodes) 1 edges) g (fit nodes refl) refl e
 
-    graph_fits : (doc : Doc) (g : NamedGraph) → EachOf (λ node. Known node.pairs) doc.nodes → graph_reading doc ≡ Ok g →
+    graph_fits : (doc : Doc) (g : NamedGraph) → AllByRecursion (λ node. Known node.pairs) doc.nodes → graph_reading doc ≡ Ok g →
         (name : Name) (body : Body) → map_of.get g.nodes name ≡ Some body → BodyFits body
     unfolding GraphFits
     graph_fits doc g known e = wired_fits doc.edges (nodes_reading [] 1 doc.nodes) g (nodes_fit [] 1 doc.nodes known tt) e
@@ -248,13 +248,13 @@ module _ (says_ports : ReadsPorts) (rows : RowsAreMet) where
   -- ---- texts
 
   kept_texts : (P : List ℕ → Type 0) (IsSo : Pair → Type 0) → ((pair : Pair) → IsSo pair → P pair.0 × P pair.1) → (doc : Doc) (g : NamedGraph) →
-      EachOf (λ node. EachOf IsSo node.pairs) doc.nodes → graph_reading doc ≡ Ok g → KeptTexts P g
+      AllByRecursion (λ node. AllByRecursion IsSo node.pairs) doc.nodes → graph_reading doc ≡ Ok g → KeptTexts P g
   kept_texts P IsSo texts doc g each e name body key value there kept =
-      let read = (graph_fits (EachOf IsSo) doc g each e name body there).1 in
+      let read = (graph_fits (AllByRecursion IsSo) doc g each e name body there).1 in
       last_is_so P IsSo texts key value read.0 read.1 (where_free (is_owned body.kind key) (last_value key read.0) value (sym (kept_is body read.0 read.2 key) ∙ kept))
 
   pub read_texts : ReadTexts
   read_texts doc g e = (
-    λ prints. kept_texts CanBeQuoted PairPrints (λ pair h. (h.key, h.value)) doc g (each_changed NodePrints (λ node. EachOf PairPrints node.pairs) (λ node h. h.pairs) doc.nodes prints.nodes) e,
-    λ texts. kept_texts IsUtf8 (PairTexts IsUtf8) (λ pair h. h) doc g (each_changed (NodeTexts IsUtf8) (λ node. EachOf (PairTexts IsUtf8) node.pairs) (λ node h. h.1) doc.nodes texts.0) e,
+    λ prints. kept_texts CanBeQuoted PairPrints (λ pair h. (h.key, h.value)) doc g (each_changed NodePrints (λ node. AllByRecursion PairPrints node.pairs) (λ node h. h.pairs) doc.nodes prints.nodes) e,
+    λ texts. kept_texts IsUtf8 (PairTexts IsUtf8) (λ pair h. h) doc g (each_changed (NodeTexts IsUtf8) (λ node. AllByRecursion (PairTexts IsUtf8) node.pairs) (λ node h. h.1) doc.nodes texts.0) e,
   )

@@ -12,7 +12,7 @@ use Rattle.port_types.specs.PortText.{side_word, port_name, marked_ports_text}
 use Rattle.port_types.specs.PortLaws.{ArePorts}
 use Rattle.dot_text.specs.Lexical.{is_plain, Quotes, Quotes.nothing, Quotes.plain}
 use Rattle.dot_text.specs.Grammar.{Pair}
-use Rattle.dot_text.specs.Printing.{CanBeQuoted, EachOf, PairPrints, NodePrints, EdgePrints, DocPrints}
+use Rattle.dot_text.specs.Printing.{CanBeQuoted, PairPrints, NodePrints, EdgePrints, DocPrints}
 use Rattle.dot_text.specs.Texts.{PairTexts, NodeTexts, EdgeTexts, DocTexts}
 use Rattle.graph_core.specs.declared.kind.Kind.{Kind}
 use Rattle.graph_core.specs.declared.kind.Kind.TheVariants.{Entry, Exit, Buffer, Fork, Join, Split, Operator, Constant, Source0, Sink0, Mux, Branch, Merge, CtrlMerge, Init, Tagger}
@@ -46,7 +46,7 @@ name_written name right = record { quoted = record { bytes = name; quotes = name
 abbrev PairIsWritten : Pair → Type 0
 PairIsWritten = PairTexts IsWritten
 
-side_written : (side : Side) (printed : List PrintedPort) → ArePorts printed → EachOf PairIsWritten (printed_side side printed)
+side_written : (side : Side) (printed : List PrintedPort) → ArePorts printed → AllByRecursion PairIsWritten (printed_side side printed)
 side_written side [] are = tt
 side_written side (port ∷ printed) are = (
   (written (side_word side) (side_simple side), written (marked_ports_text side (port ∷ printed)) (ports_simple side (port ∷ printed) are)),
@@ -56,7 +56,7 @@ side_written side (port ∷ printed) are = (
 hexadecimal_written : (value : ℕ) → value < 2 ^ 64 → IsWritten (hexadecimal value)
 hexadecimal_written value small = written (hexadecimal value) (hexadecimal_simple value small)
 
-own_written : (kind : Kind) → KindOk kind → ValueFits kind → EachOf PairIsWritten (own_pairs kind)
+own_written : (kind : Kind) → KindOk kind → ValueFits kind → AllByRecursion PairIsWritten (own_pairs kind)
 own_written (Entry shape) ok fits = tt
 own_written (Exit shape) ok fits = tt
 own_written (Buffer shape) ok fits = tt
@@ -78,15 +78,15 @@ own_written (Init value (suc mark)) ok fits = (
 )
 own_written (Tagger shape tags) ok fits = ((written (codes "tags") refl, decimal_written tags (omega (arith, ok.3))), tt)
 
-pairs_written : PortsAreShapes → (body : Body) → KindOk body.kind → ValueFits body.kind → EachOf PairIsWritten (map_of.entries body.kept) → EachOf PairIsWritten (pairs_of body)
+pairs_written : PortsAreShapes → (body : Body) → KindOk body.kind → ValueFits body.kind → AllByRecursion PairIsWritten (map_of.entries body.kept) → AllByRecursion PairIsWritten (pairs_of body)
 pairs_written right body ok fits kept =
     let first : Pair = (codes "type", kind_word body.kind) in
     let inputs = side_pairs body.kind Ins in
     let outputs = side_pairs body.kind Outs in
     let own = own_pairs body.kind in
     let type : PairIsWritten first = (written (codes "type") refl, written (kind_word body.kind) (word_simple body.kind)) in
-    let front : EachOf PairIsWritten (first ∷ inputs) = (type, side_written Ins (marked_ports body.kind Ins) (are_ports right body.kind Ins ok)) in
-    let both : EachOf PairIsWritten (first ∷ inputs ++ outputs) =
+    let front : AllByRecursion PairIsWritten (first ∷ inputs) = (type, side_written Ins (marked_ports body.kind Ins) (are_ports right body.kind Ins ok)) in
+    let both : AllByRecursion PairIsWritten (first ∷ inputs ++ outputs) =
     each_append PairIsWritten (first ∷ inputs) outputs front (side_written Outs (marked_ports body.kind Outs) (are_ports right body.kind Outs ok)) in
     each_append PairIsWritten ((first ∷ inputs ++ outputs) ++ own) (map_of.entries body.kept)
     (each_append PairIsWritten (first ∷ inputs ++ outputs) own both (own_written body.kind ok fits)) kept
@@ -117,7 +117,7 @@ module _ (right : PortsAreShapes) (g : NamedGraph) (within : CanBeReadBack g) (q
   name_at : (name : Name) (body : Body) → map_of.get g.nodes name ≡ Some body → IsWritten name
   name_at name body is = name_written name (within.names name body is)
 
-  kept_at : (name : Name) (body : Body) → map_of.get g.nodes name ≡ Some body → EachOf PairIsWritten (map_of.entries body.kept)
+  kept_at : (name : Name) (body : Body) → map_of.get g.nodes name ≡ Some body → AllByRecursion PairIsWritten (map_of.entries body.kept)
   kept_at name body is =
       each_entry name_total name_same PairIsWritten (map_of.entries body.kept) (map_of.entries_sorted body.kept) (λ key value found.
       let kept = map_of.get-entries body.kept key ∙ found in

@@ -1,17 +1,18 @@
 -- A step stays within its circuit; a simulation of a part is one of the whole.
 use Rattle.std.proofs.Common.{◌≡◌, ◌≢◌, ◌⊎◌, inl, inr, refl, sym, ap, subst, ◌∙◌, List, [], ◌∷◌, ◌++◌, Option, Some, None, append-nil}
+use Rattle.std.specs.List.{AllByRecursion}
+use Rattle.std.proofs.lemmas.Option.{same_Some}
 use Rattle.op_table.specs.Laws.{ValueFits}
 use Rattle.port_types.specs.Token.{Fits}
 use Rattle.graph_core.specs.declared.kind.Kind.{Kind}
 use Rattle.graph_core.specs.Name.{Name, Port}
-use Rattle.module_sem.specs.Each.{Each}
 use Rattle.module_sem.specs.PortTokens.{Token, share, share_from}
 use Rattle.module_sem.specs.Circuit.{Circuit, kind_of, Typed}
 use Rattle.module_sem.specs.State.{SlotFits, TagsDiffer, State, start, initial, IsStateOf}
 use Rattle.module_sem.specs.Firing.{Label, Label.Feed, Label.Take, Label.Fire, Acts}
 use Rattle.module_sem.specs.Run.{Step, Firing, Firings}
 use Rattle.module_sem.specs.Plug.{Apart, beside, or_else}
-use Rattle.module_sem.proofs.Steps.{some_inj, share_other, append_none}
+use Rattle.module_sem.proofs.Steps.{share_other, append_none}
 use Rattle.module_sem.proofs.Sim.{Inner, Sim, inner_then, inner_one, inner_none}
 use Rattle.module_sem.proofs.Fitting.{step_fits, start_fits, take_fits}
 
@@ -193,7 +194,7 @@ module _ (c d : Circuit) (h : Apart c d) (tc : Typed c) (td : Typed d) (s : Stat
 
   step_of_at : (o : Option Kind) → c.kind_at n ≡ o → Step (beside c d) s n l t → Step c s n l t ⊎ Step d s n l t
   step_of_at (Some k) e st =
-      let same : k ≡ st.kind = some_inj k st.kind (sym (kind_left c d n k e) ∙ st.is_kind) in
+      let same : k ≡ st.kind = same_Some k st.kind (sym (kind_left c d n k e) ∙ st.is_kind) in
       inl (moved (beside c d) c s n l t st (e ∙ ap Some same) (λ p. share_left c d h td n k e st.given p))
   step_of_at None e st =
       let is : d.kind_at n ≡ Some st.kind = sym (kind_right c d n e) ∙ st.is_kind in
@@ -255,8 +256,8 @@ leaves_none c s = record { wires = λ p e. refl; slots = λ n e. refl }
 agree_fits : (c : Circuit) (s u : State) → ((p : Port) (k : Kind) → c.kind_at p.node ≡ Some k → u.wires p ≡ s.wires p) → ((n : Name) (k : Kind) → c.kind_at n ≡ Some k → u.slots n ≡ s.slots n) → IsStateOf c s → IsStateOf c u
 agree_fits c s u w x h =
     record {
-      wires = λ p k a e f. subst (Each (Fits a)) (sym (w p k e)) (h.wires p k a e f);
-      slots = λ n k e. subst (Each (SlotFits k)) (sym (x n k e)) (h.slots n k e);
+      wires = λ p k a e f. subst (AllByRecursion (Fits a)) (sym (w p k e)) (h.wires p k a e f);
+      slots = λ n k e. subst (AllByRecursion (SlotFits k)) (sym (x n k e)) (h.slots n k e);
       tags = λ n k e. subst TagsDiffer (sym (x n k e)) (h.tags n k e);
     }
 

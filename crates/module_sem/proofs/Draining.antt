@@ -1,9 +1,10 @@
 -- What a circuit drains it drains without a Buffer.
 use Rattle.std.proofs.Common.{◌≡◌, ◌≢◌, ℕ, inl, inr, refl, sym, ap, subst, ◌∙◌, if◌then◌else◌, List, [], ◌∷◌, ◌++◌, Option, Some, None, append-nil}
+use Rattle.std.specs.List.{AllByRecursion}
+use Rattle.std.proofs.lemmas.Option.{same_Some}
 use Rattle.graph_core.specs.declared.kind.Kind.{Kind}
 use Rattle.graph_core.specs.declared.kind.Kind.TheVariants.{Entry, Exit, Buffer, Fork, Init}
 use Rattle.graph_core.specs.Name.{Name, Port}
-use Rattle.module_sem.specs.Each.{Each}
 use Rattle.module_sem.specs.PortTokens.{Token, share, share_from}
 use Rattle.module_sem.specs.Circuit.{Circuit, kind_of, Typed}
 use Rattle.module_sem.specs.State.{State, start, initial}
@@ -13,7 +14,7 @@ use Rattle.module_sem.specs.Buffers.{first_port, bypass, drop_node, IsBufferLike
 use Rattle.module_sem.specs.Root.{PassesThrough, Root, Root.here, Root.past}
 use Rattle.module_sem.specs.Drains.{IsInit, ComesFromInit, Led, IsRest, put_by, put_on, loaded, IsNoExit, Drains}
 use Rattle.module_sem.proofs.Names.{name_cases}
-use Rattle.module_sem.proofs.Steps.{some_inj, share_other}
+use Rattle.module_sem.proofs.Steps.{share_other}
 use Rattle.module_sem.proofs.Dropping.{CanDrop, Ahead, held, pass, pass_ahead, down_to, down_step, down_ahead, up_to, up_step, level, start_ahead, kind_dropped, feeder_dropped}
 use Rattle.module_sem.proofs.Dropped.{Fed, Fed.straight, Fed.across, fed, fed_straight, fed_across, node_kept, kind_kept, can_drop_of}
 
@@ -84,7 +85,7 @@ module _ (c : Circuit) where
   step_comes_at s n k t st led h p v vs (w ∷ ws) e f =
       let (z, zs, g) = cons_behind (share n st.taken p) w ws in h p z zs (st.takes p ∙ ap (λ x. share n st.taken p ++ x) e ∙ g)
 
-  pub led_comes : (s : State) (fs : List Firing) (t : State) → Each (λ f. Led c f.node) fs → Firings c s fs t → Comes c s → Comes c t
+  pub led_comes : (s : State) (fs : List Firing) (t : State) → AllByRecursion (λ f. Led c f.node) fs → Firings c s fs t → Comes c s → Comes c t
   led_comes s [] t led run h p v vs e = h p v vs (ap (λ (z : State). z.wires p) run ∙ e)
   led_comes s (f ∷ fs) t led run h p v vs e =
       led_comes run.0 fs t led.1 run.2 (λ q w ws g. step_comes_at s f.node f.choice run.0 run.1 led.0 h q w ws (run.1.between q) refl (sym (run.1.gives q) ∙ g)) p v vs e
@@ -111,7 +112,7 @@ module _ (c : Circuit) (b : Name) (cd : CanDropBuffer c b) (ty : Typed c) where
 
   root_away : (n : Name) (k : Kind) → c.kind_at n ≡ Some k → (PassesThrough k → ⊥) → n ≢ b
   root_away n k e stays is =
-      stays (subst PassesThrough (some_inj cd.kind k (sym cd.is_kind ∙ ap c.kind_at (sym is) ∙ e)) through)
+      stays (subst PassesThrough (same_Some cd.kind k (sym cd.is_kind ∙ ap c.kind_at (sym is) ∙ e)) through)
 
   -- without b an input has the root that it had
   record Short (s q : Port) : Type 0 where
@@ -134,7 +135,7 @@ module _ (c : Circuit) (b : Name) (cd : CanDropBuffer c b) (ty : Typed c) where
               | inr ne ↦ past r k (fed_straight c b can ty s r away f ne.is_not) (kind_dropped c b can r.node ne.is_not ∙ e) passes (go.from ne.is_not)
             ];
         over = λ is p g.
-            let first : r ≡ can.before = some_inj r can.before (sym f ∙ ap c.feeder is ∙ can.is_before) in
+            let first : r ≡ can.before = same_Some r can.before (sym f ∙ ap c.feeder is ∙ can.is_before) in
             let ne : r.node ≢ b = λ x. can.other (ap (λ (z : Port). z.node) (sym first) ∙ x) in
             past r k (g ∙ ap c.feeder (sym is) ∙ f) (kind_dropped c b can r.node ne ∙ e) passes (go.from ne);
       }
@@ -198,7 +199,7 @@ module _ (c : Circuit) (b : Name) (cd : CanDropBuffer c b) (ty : Typed c) where
     firings : List Firing
     leads : Firings (drop_node b c) s firings to
     ahead : Ahead c b to t
-    led : Each (λ f. Led c f.node) fs → Each (λ f. Led (drop_node b c) f.node) firings
+    led : AllByRecursion (λ f. Led c f.node) fs → AllByRecursion (λ f. Led (drop_node b c) f.node) firings
 
   fewer : (s t : State) (fs : List Firing) (u : State) → Ahead c b s t → Firings c t fs u → Fewer s fs u
   fewer s t [] u a run = record { to = s; firings = []; leads = refl; ahead = subst (Ahead c b s) run a; led = λ h. tt }

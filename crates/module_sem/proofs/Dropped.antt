@@ -1,5 +1,6 @@
 -- A circuit without a Buffer is typed; each refines the other.
 use Rattle.std.proofs.Common.{◌≡◌, ◌≢◌, inl, inr, refl, sym, ap, subst, ◌∙◌, if◌then◌else◌, [], ◌∷◌, Option, Some, None}
+use Rattle.std.proofs.lemmas.Option.{same_Some}
 use Rattle.op_table.specs.Laws.{ValueFits}
 use Rattle.graph_core.specs.declared.kind.Kind.{Kind}
 use Rattle.graph_core.specs.declared.kind.Kind.TheVariants.{Entry, Exit, Buffer, Fork}
@@ -9,7 +10,6 @@ use Rattle.module_sem.specs.Circuit.{Circuit, Wire, Typed}
 use Rattle.module_sem.specs.Refines.{SamePorts, Refines}
 use Rattle.module_sem.specs.Buffers.{bypass, drop_node, IsBufferLike, CanDropBuffer}
 use Rattle.module_sem.proofs.Names.{name_cases, other_test, same_test}
-use Rattle.module_sem.proofs.Steps.{some_inj}
 use Rattle.module_sem.proofs.Matching.{matches_refines}
 use Rattle.module_sem.proofs.Dropping.{CanDrop, IsPlain, buffer_plain, fork_plain, kind_dropped, kind_gone, feeder_dropped, feeder_gone, single_port, out_port, drop_matches, undrop_matches}
 
@@ -35,7 +35,7 @@ module _ (c : Circuit) (b : Name) (can : CanDrop c b) (ty : Typed c) where
         | inl is ↦ across r f is.is (ap (λ z. if z then c.feeder (record { node = b; port = 1 }) else Some r) (sym is.test) ∙ e)
         | inr ne ↦
             let same : Some r ≡ Some q = ap (λ z. if z then c.feeder (record { node = b; port = 1 }) else Some r) (sym ne.test) ∙ e in
-            straight (f ∙ same) (λ x. ne.is_not (ap (λ (z : Port). z.node) (some_inj r q same) ∙ x))
+            straight (f ∙ same) (λ x. ne.is_not (ap (λ (z : Port). z.node) (same_Some r q same) ∙ x))
       ]
 
   port_kept : (p q : Port) → (drop_node b c).feeder p ≡ Some q → p.node ≢ b
@@ -55,10 +55,10 @@ module _ (c : Circuit) (b : Name) (can : CanDrop c b) (ty : Typed c) where
       ∙ ap (λ z. if z then c.feeder (record { node = b; port = 1 }) else Some r) (same_test r.node b is)
 
   source_kind : (p q : Port) (f : c.feeder p ≡ Some q) → q.node ≡ b → (ty.wires p q f).source ≡ can.kind
-  source_kind p q f is = some_inj _ can.kind (sym (ty.wires p q f).is_source ∙ ap c.kind_at is ∙ can.is_kind)
+  source_kind p q f is = same_Some _ can.kind (sym (ty.wires p q f).is_source ∙ ap c.kind_at is ∙ can.is_kind)
 
   target_kind : (p q : Port) (f : c.feeder p ≡ Some q) → p.node ≡ b → (ty.wires p q f).target ≡ can.kind
-  target_kind p q f is = some_inj _ can.kind (sym (ty.wires p q f).is_target ∙ ap c.kind_at is ∙ can.is_kind)
+  target_kind p q f is = same_Some _ can.kind (sym (ty.wires p q f).is_target ∙ ap c.kind_at is ∙ can.is_kind)
 
   -- a port of b is its one port
   out_is : (p q : Port) → c.feeder p ≡ Some q → q.node ≡ b → q ≡ record { node = b; port = 1 }
@@ -71,7 +71,7 @@ module _ (c : Circuit) (b : Name) (can : CanDrop c b) (ty : Typed c) where
       λ i. record { node = is i; port = e i }
 
   before_is : (q : Port) → c.feeder (record { node = b; port = 1 }) ≡ Some q → can.before ≡ q
-  before_is q f = some_inj can.before q (sym can.is_before ∙ f)
+  before_is q f = same_Some can.before q (sym can.is_before ∙ f)
 
   wire_of : (p q : Port) → p.node ≢ b → Fed c b p q → Wire (drop_node b c) p q
   wire_of p q away (straight f ne) =
@@ -89,8 +89,8 @@ module _ (c : Circuit) (b : Name) (can : CanDrop c b) (ty : Typed c) where
       let w = ty.wires p r f in
       let v = ty.wires (record { node = b; port = 1 }) q g in
       let ne : q.node ≢ b = λ x. can.other (ap (λ (z : Port). z.node) (before_is q g) ∙ x) in
-      let one : w.shape ≡ can.shape = some_inj w.shape can.shape (sym w.leaves ∙ (λ i. port_get ((ap outs (source_kind p r f is) ∙ can.plain.output) i) (out_port c b can ty p r f is i))) in
-      let two : v.shape ≡ can.shape = some_inj v.shape can.shape (sym v.enters ∙ ap (λ z. port_get z 1) (ap ins (target_kind (record { node = b; port = 1 }) q g refl) ∙ can.plain.input)) in
+      let one : w.shape ≡ can.shape = same_Some w.shape can.shape (sym w.leaves ∙ (λ i. port_get ((ap outs (source_kind p r f is) ∙ can.plain.output) i) (out_port c b can ty p r f is i))) in
+      let two : v.shape ≡ can.shape = same_Some v.shape can.shape (sym v.enters ∙ ap (λ z. port_get z 1) (ap ins (target_kind (record { node = b; port = 1 }) q g refl) ∙ can.plain.input)) in
       record {
         target = w.target;
         source = v.source;
@@ -114,7 +114,7 @@ module _ (c : Circuit) (b : Name) (can : CanDrop c b) (ty : Typed c) where
         | inl is ↦
             let at : c.feeder (record { node = b; port = 1 }) ≡ Some q = ap c.feeder (sym (in_is p q f is.is)) ∙ f in
             let (r, g) = ty.outputs (record { node = b; port = 1 }) can.kind can.shape can.is_kind (ap (λ z. port_get z 1) can.plain.output) in
-            let ne : r.node ≢ b = λ x. can.other (ap (λ (z : Port). z.node) (some_inj can.before (record { node = b; port = 1 }) (sym can.is_before ∙ ap c.feeder (sym (in_is r (record { node = b; port = 1 }) g x)) ∙ g))) in
+            let ne : r.node ≢ b = λ x. can.other (ap (λ (z : Port). z.node) (same_Some can.before (record { node = b; port = 1 }) (sym can.is_before ∙ ap c.feeder (sym (in_is r (record { node = b; port = 1 }) g x)) ∙ g))) in
             (r, fed_across r (record { node = b; port = 1 }) ne g refl ∙ at)
         | inr ne ↦ (p, fed_straight p q ne.is_not f away)
       ]
@@ -138,7 +138,7 @@ module _ (c : Circuit) (b : Name) (can : CanDrop c b) (ty : Typed c) where
       }
 
   not_port : (n : Name) (k : Kind) → c.kind_at n ≡ Some k → n ≡ b → k ≡ can.kind
-  not_port n k e is = some_inj k can.kind (sym e ∙ ap c.kind_at is ∙ can.is_kind)
+  not_port n k e is = same_Some k can.kind (sym e ∙ ap c.kind_at is ∙ can.is_kind)
 
   pub drop_ports : SamePorts (drop_node b c) c
   drop_ports =

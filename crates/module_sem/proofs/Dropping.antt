@@ -1,6 +1,7 @@
 -- A Buffer more or less: the steps that are matched.
 use Rattle.std.proofs.Common.{◌≡◌, ◌≢◌, ℕ, zero, suc, inl, inr, refl, sym, ap, subst, ◌∙◌, true, false, bytes_eq, if◌then◌else◌, List, [], ◌∷◌, ◌++◌, Option, Some, None, append-nil, append_assoc}
 use Rattle.std.proofs.lemmas.List.{append_cancel_left}
+use Rattle.std.proofs.lemmas.Option.{same_Some}
 use Rattle.graph_core.specs.declared.kind.Kind.{Kind}
 use Rattle.graph_core.specs.declared.kind.Kind.TheVariants.{Entry, Buffer, Fork}
 use Rattle.graph_core.specs.Name.{Name, Port, port_get}
@@ -12,7 +13,7 @@ use Rattle.module_sem.specs.Firing.{Label, Label.Feed, Label.Take, Label.Fire, A
 use Rattle.module_sem.specs.Run.{Step}
 use Rattle.module_sem.specs.Buffers.{bypass, drop_node}
 use Rattle.module_sem.proofs.Names.{name_cases, other_test, same_test}
-use Rattle.module_sem.proofs.Steps.{acts_at, some_inj, share_none, share_other, share_same, append_none}
+use Rattle.module_sem.proofs.Steps.{acts_at, share_none, share_other, share_same, append_none}
 use Rattle.module_sem.proofs.Sim.{Inner, inner_then, inner_one, inner_none}
 use Rattle.module_sem.proofs.Matching.{Matches}
 
@@ -254,7 +255,7 @@ module _ (c : Circuit) (b : Name) (can : CanDrop c b) (ty : Typed c) where
   pub out_port : (p q : Port) → c.feeder p ≡ Some q → q.node ≡ b → q.port ≡ 1
   out_port p q f is =
       let w = ty.wires p q f in
-      let same : w.source ≡ can.kind = some_inj w.source can.kind (sym w.is_source ∙ ap c.kind_at is ∙ can.is_kind) in
+      let same : w.source ≡ can.kind = same_Some w.source can.kind (sym w.is_source ∙ ap c.kind_at is ∙ can.is_kind) in
       single_port can.shape w.shape q.port (ap (λ z. port_get z q.port) (sym (ap outs same ∙ can.plain.output)) ∙ w.leaves)
 
   -- when b fires, nothing is seen of it

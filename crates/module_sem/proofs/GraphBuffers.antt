@@ -2,6 +2,7 @@
 use Rattle.std.proofs.Common.{◌≡◌, ◌≢◌, inl, inr, Bool, true, false, not, ◌||◌, refl, sym, ap, subst, ◌∙◌, bytes_eq, cond, if◌then◌else◌, List, Option, Some, None}
 use Rattle.std.specs.Ordering.{eq_by_cmp}
 use Rattle.std.specs.FinMap as map
+use Rattle.std.proofs.lemmas.Option.{same_Some}
 use Rattle.op_table.specs.Laws.{ValueFits}
 use Rattle.graph_core.specs.declared.kind.Kind.TheVariants.{Buffer}
 use Rattle.graph_core.specs.Name.{Name, Port, port_cmp, port_get}
@@ -14,7 +15,6 @@ use Rattle.module_sem.specs.Refines.{Refines}
 use Rattle.module_sem.specs.Buffers.{first_port, bypass, drop_node, CanDropBuffer, IsWithoutBuffer}
 use Rattle.module_sem.specs.Drains.{Drains}
 use Rattle.module_sem.proofs.Names.{name_cases, same_test, other_test}
-use Rattle.module_sem.proofs.Steps.{some_inj}
 use Rattle.module_sem.proofs.Dropping.{single_port, out_port}
 use Rattle.module_sem.proofs.Dropped.{can_drop_of, dropped, put}
 use Rattle.module_sem.proofs.Draining.{drains_without}
@@ -47,10 +47,10 @@ module _ (h g : NamedGraph) (b : Name) (ty : IsTyped g) (w : IsWithoutBuffer h g
   target_away : w.target.node ≢ b
   target_away is =
       let wire = typed.wires w.target (first_port b) w.after in
-      let same : wire.target ≡ Buffer w.shape = some_inj wire.target (Buffer w.shape) (sym wire.is_target ∙ ap (circuit_of g).kind_at is ∙ is_kind) in
+      let same : wire.target ≡ Buffer w.shape = same_Some wire.target (Buffer w.shape) (sym wire.is_target ∙ ap (circuit_of g).kind_at is ∙ is_kind) in
       let port : w.target.port ≡ 1 = single_port w.shape wire.shape w.target.port (ap (λ x. port_get (ins x) w.target.port) (sym same) ∙ wire.enters) in
       let there : w.target ≡ first_port b = λ i. record { node = is i; port = port i } in
-      w.other (ap (λ (x : Port). x.node) (some_inj w.source (first_port b) (sym w.before ∙ ap (map.get g.feeders) (sym there) ∙ w.after)))
+      w.other (ap (λ (x : Port). x.node) (same_Some w.source (first_port b) (sym w.before ∙ ap (map.get g.feeders) (sym there) ∙ w.after)))
 
   -- no other input is fed by b
   fed_by_b : (p q : Port) → p ≢ w.target → map.get g.feeders p ≡ Some q → q.node ≢ b

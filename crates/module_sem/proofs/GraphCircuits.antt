@@ -1,6 +1,7 @@
 -- A graph by names is typed exactly where its circuit is.
 use Rattle.std.proofs.Common.{◌≡◌, ℕ, ◌+◌, ◌<◌, inl, inr, refl, sym, ap, subst, ◌∙◌, cond, length, List, [], ◌∷◌, Option, Some, None, arith}
 use Rattle.std.specs.FinMap as map
+use Rattle.std.proofs.lemmas.Option.{same_Some}
 use Rattle.graph_core.specs.declared.kind.Kind.{Kind}
 use Rattle.graph_core.specs.Name.{Name, Port, name_cmp, port_get}
 use Rattle.graph_core.specs.Kind.{ins, outs, KindOk}
@@ -8,7 +9,6 @@ use Rattle.graph_core.specs.Node.{Body}
 use Rattle.graph_core.specs.NamedGraph.{NamedGraph, IsWire, IsTyped}
 use Rattle.module_sem.specs.Circuit.{Wire, Typed, circuit_of, kind_of_body}
 use Rattle.module_sem.proofs.Names.{name_cases}
-use Rattle.module_sem.proofs.Steps.{some_inj}
 use Rattle.module_sem.proofs.Maps.{name_test}
 
 -- the node behind a kind
@@ -19,7 +19,7 @@ pub record HasBody (o : Option Body) (k : Kind) : Type 0 where
 
 pub body_behind : (o : Option Body) (k : Kind) → kind_of_body o ≡ Some k → HasBody o k
 body_behind None k e = let z : None ≡ Some k = e in cc
-body_behind (Some body) k e = record { body = body; is_body = refl; is_kind = some_inj body.kind k e }
+body_behind (Some body) k e = record { body = body; is_body = refl; is_kind = same_Some body.kind k e }
 
 -- the names of the entries, all together
 total_length : List (Name × Body) → ℕ

@@ -2,16 +2,16 @@
 use Rattle.std.proofs.Common.{◌≡◌, ℕ, ◌<◌, inl, inr, Bool, true, false, refl, sym, ap, subst, ◌∙◌, bytes_eq, cond, if◌then◌else◌, length, List, [], ◌∷◌, Option, Some, None}
 use Rattle.std.specs.Ordering.{eq_by_cmp}
 use Rattle.std.specs.FinMap as map
+use Rattle.std.specs.List.{AllByRecursion}
+use Rattle.std.proofs.lemmas.Option.{same_Some}
 use Rattle.graph_core.specs.declared.kind.Kind.{Kind}
 use Rattle.graph_core.specs.Name.{Name, Port, name_cmp, port_cmp, port_get}
 use Rattle.graph_core.specs.Kind.{ins, outs, KindOk}
 use Rattle.graph_core.specs.Node.{Body}
-use Rattle.module_sem.specs.Each.{Each}
 use Rattle.module_sem.specs.Circuit.{Circuit, Wire, Typed, circuit_of, kind_of_body}
 use Rattle.module_sem.specs.LoneWire.{bare}
 use Rattle.module_sem.specs.Listed.{ListedNode, ListedWire, with_nodes, listed}
 use Rattle.module_sem.proofs.Names.{name_cases}
-use Rattle.module_sem.proofs.Steps.{some_inj}
 use Rattle.module_sem.proofs.Beside.{none_some}
 use Rattle.module_sem.proofs.Renaming.{circuit_same}
 use Rattle.module_sem.proofs.Maps.{port_cases, get_with_name, get_with_port}
@@ -63,22 +63,22 @@ is_spelled nodes wires =
     circuit_same _ _ (λ n. ap (λ z. kind_of_body (map.get z n)) (same_nodes nodes wires) ∙ node_at nodes n) (wire_at nodes wires)
 
 -- what holds of each that is listed holds of each that there is
-pub each_node : (P : Name → Kind → Type 0) (nodes : List ListedNode) → Each (λ node. P node.name node.kind) nodes → (n : Name) (k : Kind) → kind_in nodes n ≡ Some k → P n k
+pub each_node : (P : Name → Kind → Type 0) (nodes : List ListedNode) → AllByRecursion (λ node. P node.name node.kind) nodes → (n : Name) (k : Kind) → kind_in nodes n ≡ Some k → P n k
 each_node P [] all n k e = absurd (none_some None k refl e)
 each_node P (node ∷ nodes) all n k e =
     elim (name_cases n node.name) [
       | inl is ↦
-          subst (P n) (some_inj node.kind k (sym (ap (λ b. if b then Some node.kind else kind_in nodes n) is.test) ∙ e))
+          subst (P n) (same_Some node.kind k (sym (ap (λ b. if b then Some node.kind else kind_in nodes n) is.test) ∙ e))
           (subst (λ z. P z node.kind) (sym is.is) all.0)
       | inr ne ↦ each_node P nodes all.1 n k (sym (ap (λ b. if b then Some node.kind else kind_in nodes n) ne.test) ∙ e)
     ]
 
-each_wire : (P : Port → Port → Type 0) (wires : List ListedWire) → Each (λ wire. P wire.target wire.source) wires → (p q : Port) → feeder_in wires p ≡ Some q → P p q
+each_wire : (P : Port → Port → Type 0) (wires : List ListedWire) → AllByRecursion (λ wire. P wire.target wire.source) wires → (p q : Port) → feeder_in wires p ≡ Some q → P p q
 each_wire P [] all p q e = absurd (none_some None q refl e)
 each_wire P (wire ∷ wires) all p q e =
     elim (port_cases p wire.target) [
       | inl is ↦
-          subst (P p) (some_inj wire.source q (sym (ap (λ b. if b then Some wire.source else feeder_in wires p) is.test) ∙ e))
+          subst (P p) (same_Some wire.source q (sym (ap (λ b. if b then Some wire.source else feeder_in wires p) is.test) ∙ e))
           (subst (λ z. P z wire.source) (sym is.is) all.0)
       | inr ne ↦ each_wire P wires all.1 p q (sym (ap (λ b. if b then Some wire.source else feeder_in wires p) ne.test) ∙ e)
     ]
@@ -92,13 +92,13 @@ OutputsFeed c n k = (i : ℕ) (a : List ℕ) → port_get (outs k) i ≡ Some a 
 
 -- what is shown of each that is listed
 pub record ListedTyped (nodes : List ListedNode) (wires : List ListedWire) : Type 0 where
-  pub kinds : Each (λ node. KindOk node.kind) nodes
-  pub are_wires : Each (λ wire. Wire (spelled nodes wires) wire.target wire.source) wires
-  pub inputs : Each (λ node. InputsFed (spelled nodes wires) node.name node.kind) nodes
-  pub outputs : Each (λ node. OutputsFeed (spelled nodes wires) node.name node.kind) nodes
-  pub once : Each (λ wire. Each (λ other. other.source ≡ wire.source → wire.target ≡ other.target) wires) wires
+  pub kinds : AllByRecursion (λ node. KindOk node.kind) nodes
+  pub are_wires : AllByRecursion (λ wire. Wire (spelled nodes wires) wire.target wire.source) wires
+  pub inputs : AllByRecursion (λ node. InputsFed (spelled nodes wires) node.name node.kind) nodes
+  pub outputs : AllByRecursion (λ node. OutputsFeed (spelled nodes wires) node.name node.kind) nodes
+  pub once : AllByRecursion (λ wire. AllByRecursion (λ other. other.source ≡ wire.source → wire.target ≡ other.target) wires) wires
   pub size : ℕ
-  pub names : Each (λ node. length node.name < size) nodes
+  pub names : AllByRecursion (λ node. length node.name < size) nodes
 
 pub listed_typed : (nodes : List ListedNode) (wires : List ListedWire) → ListedTyped nodes wires → Typed (spelled nodes wires)
 listed_typed nodes wires h =
@@ -111,8 +111,8 @@ listed_typed nodes wires h =
       names = (h.size, each_node (λ n k. length n < h.size) nodes h.names);
     }
   where
-    once_each : (some : List ListedWire) → Each (λ wire. Each (λ other. other.source ≡ wire.source → wire.target ≡ other.target) wires) some →
-        Each (λ wire. (z : Port) → feeder_in wires z ≡ Some wire.source → wire.target ≡ z) some
+    once_each : (some : List ListedWire) → AllByRecursion (λ wire. AllByRecursion (λ other. other.source ≡ wire.source → wire.target ≡ other.target) wires) some →
+        AllByRecursion (λ wire. (z : Port) → feeder_in wires z ≡ Some wire.source → wire.target ≡ z) some
     once_each [] all = tt
     once_each (wire ∷ some) all = (
       (λ z e. each_wire (λ x y. y ≡ wire.source → wire.target ≡ x) wires all.0 z wire.source e refl),

@@ -1,13 +1,14 @@
 -- An Init with a Buffer behind it: it is typed, it has a rest state, and it drains bits to its value followed by them.
 use Rattle.std.proofs.Common.{◌≡◌, ◌≢◌, ℕ, zero, suc, ◌≤◌, ◌<◌, ◌⊎◌, inl, inr, true, false, refl, sym, ap, subst, ◌∙◌, if◌then◌else◌, slice_index_or, List, [], ◌∷◌, ◌++◌, Some, None, append-nil, append_assoc, arith}
 use Rattle.std.specs.Ordering.{eq_by_cmp}
+use Rattle.std.specs.List.{AllByRecursion}
+use Rattle.std.proofs.lemmas.Option.{same_Some}
 use Rattle.port_types.specs.Token.{Fits}
 use Rattle.graph_core.specs.declared.kind.Kind.{Kind}
 use Rattle.graph_core.specs.declared.kind.Kind.TheVariants.{Entry, Exit, Buffer, Init}
 use Rattle.graph_core.specs.Name.{Name, Port, port_cmp, port_get}
 use Rattle.graph_core.specs.Kind.{Shape, field, ins, outs, KindOk}
 use Rattle.graph_core.specs.NamedGraph.{IsTyped}
-use Rattle.module_sem.specs.Each.{Each}
 use Rattle.module_sem.specs.PortTokens.{Token, single, one, at_port, share, share_from}
 use Rattle.module_sem.specs.Circuit.{Circuit, Typed, circuit_of, kind_of}
 use Rattle.module_sem.specs.State.{Slot, State, start, initial}
@@ -18,7 +19,7 @@ use Rattle.module_sem.specs.Root.{Root.here}
 use Rattle.module_sem.specs.Drains.{Led, IsRest, put_on, loaded, IsNoExit, Drains}
 use Rattle.module_sem.specs.LoneInit.{bits, init, passer, out, init_nodes, init_wires, lone_init}
 use Rattle.module_sem.proofs.Names.{name_cases, same_test}
-use Rattle.module_sem.proofs.Steps.{acts_at, some_inj, share_same, share_other}
+use Rattle.module_sem.proofs.Steps.{acts_at, share_same, share_other}
 use Rattle.module_sem.proofs.Maps.{port_cases}
 use Rattle.module_sem.proofs.Listed.{spelled, is_spelled, each_node, InputsFed, OutputsFeed, listed_typed}
 use Rattle.module_sem.proofs.GraphCircuits.{graph_typed}
@@ -210,7 +211,7 @@ module _ (value mark : ℕ) where
   abbrev Sort : Name → Kind → Type 0
   Sort n k = NeverFires k ⊎ ((n ≡ init) ⊎ (n ≡ passer))
 
-  sorts : Each (λ node. Sort node.name node.kind) (init_nodes value mark)
+  sorts : AllByRecursion (λ node. Sort node.name node.kind) (init_nodes value mark)
   sorts = (
     inl (λ choice old taken given new h. h),
     (inr (inl refl), (inr (inr refl), (inl (λ choice old taken given new h. h), tt))),
@@ -311,11 +312,11 @@ module _ (value mark : ℕ) where
 
   module _ (given gotten : Name → List Token) where
     abbrev FitsIn : Name → Kind → Type 0
-    FitsIn n k = (a : Shape) → k ≡ Entry a → Each (Fits a) (given n)
+    FitsIn n k = (a : Shape) → k ≡ Entry a → AllByRecursion (Fits a) (given n)
 
-    fits_in : Each (Fits (field 1)) (given bits) → Each (λ node. FitsIn node.name node.kind) (init_nodes value mark)
+    fits_in : AllByRecursion (Fits (field 1)) (given bits) → AllByRecursion (λ node. FitsIn node.name node.kind) (init_nodes value mark)
     fits_in fit = (
-      (λ a e. subst (λ z. Each (Fits z) (given bits)) (ap shape_of e) fit),
+      (λ a e. subst (λ z. AllByRecursion (Fits z) (given bits)) (ap shape_of e) fit),
       ((λ a e. let z : Init value mark ≡ Entry a = e in cc), ((λ a e. let z : Buffer (field 1) ≡ Entry a = e in cc), ((λ a e. let z : Exit (field 1) ≡ Entry a = e in cc), tt))),
     )
 
@@ -324,14 +325,14 @@ module _ (value mark : ℕ) where
     end = at [] [] (one (single value) ++ given bits)
 
     abbrev AtExit : Name → Kind → Type 0
-    AtExit n k = (a : Shape) → k ≡ Exit a → Each (Fits a) (gotten n) × (end.wires (first_port n) ≡ gotten n)
+    AtExit n k = (a : Shape) → k ≡ Exit a → AllByRecursion (Fits a) (gotten n) × (end.wires (first_port n) ≡ gotten n)
 
-    at_exit : Each (Fits (field 1)) (gotten out) → one (single value) ++ given bits ≡ gotten out → Each (λ node. AtExit node.name node.kind) (init_nodes value mark)
+    at_exit : AllByRecursion (Fits (field 1)) (gotten out) → one (single value) ++ given bits ≡ gotten out → AllByRecursion (λ node. AtExit node.name node.kind) (init_nodes value mark)
     at_exit fit is = (
       (λ a e. let z : Entry (field 1) ≡ Exit a = e in cc),
       (
         (λ a e. let z : Init value mark ≡ Exit a = e in cc),
-        ((λ a e. let z : Buffer (field 1) ≡ Exit a = e in cc), ((λ a e. (subst (λ z. Each (Fits z) (gotten out)) (ap shape_of e) fit, is)), tt)),
+        ((λ a e. let z : Buffer (field 1) ≡ Exit a = e in cc), ((λ a e. (subst (λ z. AllByRecursion (Fits z) (gotten out)) (ap shape_of e) fit, is)), tt)),
       ),
     )
 
@@ -340,14 +341,14 @@ module _ (value mark : ℕ) where
     at_rest =
         by_port (λ p. (k : Kind) → c.kind_at p.node ≡ Some k → IsNoExit k → end.wires p ≡ rest.wires p)
         (λ k e no_exit. refl) (λ k e no_exit. refl)
-        (λ k e no_exit. absurd (subst IsNoExit (sym (some_inj (Exit (field 1)) k e)) no_exit))
+        (λ k e no_exit. absurd (subst IsNoExit (sym (same_Some (Exit (field 1)) k e)) no_exit))
         (λ p away k e no_exit. away.empty [] [] (one (single value) ++ given bits) ∙ sym (away.empty [] [] (one (single value))))
 
-    drains : KindOk (Init value mark) → Each (Fits (field 1)) (given bits) → gotten out ≡ single value ∷ given bits → Drains c given gotten
+    drains : KindOk (Init value mark) → AllByRecursion (Fits (field 1)) (given bits) → gotten out ≡ single value ∷ given bits → Drains c given gotten
     drains ok fit is =
         let (fs, run) = flush (given bits) (one (single value)) in
         let value_fits : Fits (field 1) (single value) = (omega (arith, ok.0), tt) in
-        let exit = at_exit (subst (Each (Fits (field 1))) (sym is) (value_fits, fit)) (sym is) in
+        let exit = at_exit (subst (AllByRecursion (Fits (field 1))) (sym is) (value_fits, fit)) (sym is) in
         record {
           fit_in = λ n a e. each_node FitsIn (init_nodes value mark) (fits_in fit) n (Entry a) e a refl;
           fit_out = λ n a e. (each_node AtExit (init_nodes value mark) exit n (Exit a) e a refl).0;
@@ -394,7 +395,7 @@ module _ (value mark : ℕ) where
     firings_keep s (f ∷ fs) t run =
         elim (passed s f.node f.choice run.0 run.1) [ inl h ↦ init_keeps s f.choice run.0 h | inr h ↦ passer_keeps s f.choice run.0 h ] ∙ firings_keep run.0 fs t run.2
 
-    drains_only : Drains c given gotten → Each (Fits (field 1)) (given bits) × (gotten out ≡ single value ∷ given bits)
+    drains_only : Drains c given gotten → AllByRecursion (Fits (field 1)) (given bits) × (gotten out ≡ single value ∷ given bits)
     unfolding rest
     drains_only d =
         let same : d.rest ≡ rest = rest_is_one c d.rest rest d.is_rest rests in
@@ -406,12 +407,12 @@ module _ (value mark : ℕ) where
               ∙ (λ i. d.end.wires (first_port out) ++ (sym no_passer i ++ sym no_init i)) ∙ sym kept,
         )
 
-pub init_drains : (value mark : ℕ) (given gotten : Name → List Token) → KindOk (Init value mark) → Each (Fits (field 1)) (given bits) → gotten out ≡ single value ∷ given bits →
+pub init_drains : (value mark : ℕ) (given gotten : Name → List Token) → KindOk (Init value mark) → AllByRecursion (Fits (field 1)) (given bits) → gotten out ≡ single value ∷ given bits →
     Drains (circuit_of (lone_init value mark)) given gotten
 init_drains value mark given gotten ok fit is =
     subst (λ z. Drains z given gotten) (sym (is_spelled (init_nodes value mark) init_wires)) (drains value mark given gotten ok fit is)
 
 pub init_drains_only : (value mark : ℕ) (given gotten : Name → List Token) → Drains (circuit_of (lone_init value mark)) given gotten →
-    Each (Fits (field 1)) (given bits) × (gotten out ≡ single value ∷ given bits)
+    AllByRecursion (Fits (field 1)) (given bits) × (gotten out ≡ single value ∷ given bits)
 init_drains_only value mark given gotten d =
     drains_only value mark given gotten (subst (λ z. Drains z given gotten) (is_spelled (init_nodes value mark) init_wires) d)

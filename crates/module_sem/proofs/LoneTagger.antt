@@ -1,12 +1,12 @@
 -- A Tagger alone: it is typed, and gives results in the order in which tokens came.
 use Rattle.std.proofs.Common.{◌≡◌, ◌≢◌, ℕ, zero, suc, refl, sym, ap, subst, ◌∙◌, List, [], ◌∷◌, Some, None, arith}
+use Rattle.std.specs.List.{AllByRecursion}
 use Rattle.port_types.specs.Token.{Fits}
 use Rattle.graph_core.specs.declared.kind.Kind.{Kind}
 use Rattle.graph_core.specs.declared.kind.Kind.TheVariants.{Entry, Exit, Tagger}
 use Rattle.graph_core.specs.Name.{Name, Port, port_get}
 use Rattle.graph_core.specs.Kind.{Shape, tagged, ins, outs, KindOk}
 use Rattle.graph_core.specs.NamedGraph.{IsTyped}
-use Rattle.module_sem.specs.Each.{Each}
 use Rattle.module_sem.specs.PortTokens.{Token, one}
 use Rattle.module_sem.specs.Circuit.{Circuit, Typed, circuit_of}
 use Rattle.module_sem.specs.State.{Slot, start}
@@ -72,7 +72,7 @@ ports_differ e = cc
 
 -- no output feeds two inputs
 abbrev Once : Port → Port → Type 0
-Once source target = Each (λ other. other.source ≡ source → target ≡ other.target) tagger_wires
+Once source target = AllByRecursion (λ other. other.source ≡ source → target ≡ other.target) tagger_wires
 
 by_fresh : Once (first_port fresh) (first_port tagger)
 by_fresh = (

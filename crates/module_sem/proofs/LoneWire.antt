@@ -2,6 +2,7 @@
 use Rattle.std.proofs.Common.{◌≡◌, ◌≢◌, ℕ, zero, suc, ◌<◌, inl, inr, refl, sym, ap, subst, ◌∙◌, true, false, bytes_eq, cond, if◌then◌else◌, length, List, [], ◌∷◌, ◌++◌, Some, None, arith}
 use Rattle.std.specs.Ordering.{eq_by_cmp}
 use Rattle.std.specs.FinMap as map
+use Rattle.std.proofs.lemmas.Option.{same_Some}
 use Rattle.port_types.specs.Shape.{IsShape}
 use Rattle.port_types.specs.Token.{Fits}
 use Rattle.graph_core.specs.declared.kind.Kind.{Kind}
@@ -17,7 +18,7 @@ use Rattle.module_sem.specs.Run.{Step, Move, Run, shown, trace, Shows}
 use Rattle.module_sem.specs.Buffers.{first_port}
 use Rattle.module_sem.specs.LoneWire.{entry_name, exit_name, bare, lone_wire, fed, took}
 use Rattle.module_sem.proofs.Names.{name_cases}
-use Rattle.module_sem.proofs.Steps.{acts_at, some_inj, share_none, share_from_none, share_same}
+use Rattle.module_sem.proofs.Steps.{acts_at, share_none, share_from_none, share_same}
 use Rattle.module_sem.proofs.Beside.{none_some}
 use Rattle.module_sem.proofs.Dropping.{single_port}
 use Rattle.module_sem.proofs.Renaming.{circuit_same}
@@ -66,9 +67,9 @@ module _ (shape : Shape) where
   pub node : (n : Name) (k : Kind) → (wire shape).kind_at n ≡ Some k → Node shape n k
   node n k e =
       elim (name_cases n exit_name) [
-        | inl is ↦ last is.is (sym (some_inj (Exit shape) k (ap (λ b. if b then Some (Exit shape) else (if bytes_eq n entry_name then Some (Entry shape) else None)) (sym is.test) ∙ e)))
+        | inl is ↦ last is.is (sym (same_Some (Exit shape) k (ap (λ b. if b then Some (Exit shape) else (if bytes_eq n entry_name then Some (Entry shape) else None)) (sym is.test) ∙ e)))
         | inr ne ↦ elim (name_cases n entry_name) [
-          | inl is ↦ first is.is (sym (some_inj (Entry shape) k ((λ i. if sym ne.test i then Some (Exit shape) else (if sym is.test i then Some (Entry shape) else None)) ∙ e)))
+          | inl is ↦ first is.is (sym (same_Some (Entry shape) k ((λ i. if sym ne.test i then Some (Exit shape) else (if sym is.test i then Some (Entry shape) else None)) ∙ e)))
           | inr nz ↦ absurd (none_some None k refl ((λ i. if sym ne.test i then Some (Exit shape) else (if sym nz.test i then Some (Entry shape) else None)) ∙ e))
         ]
       ]
@@ -76,7 +77,7 @@ module _ (shape : Shape) where
   edge : (p q : Port) → (wire shape).feeder p ≡ Some q → Edge p q
   edge p q e =
       elim (port_cases p (first_port exit_name)) [
-        | inl is ↦ record { into = is.is; from = sym (some_inj (first_port entry_name) q (ap (λ b. if b then Some (first_port entry_name) else None) (sym is.test) ∙ e)) }
+        | inl is ↦ record { into = is.is; from = sym (same_Some (first_port entry_name) q (ap (λ b. if b then Some (first_port entry_name) else None) (sym is.test) ∙ e)) }
         | inr ne ↦ absurd (none_some None q refl (ap (λ b. if b then Some (first_port entry_name) else None) (sym ne.test) ∙ e))
       ]
 

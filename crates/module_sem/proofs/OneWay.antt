@@ -2,6 +2,7 @@
 use Rattle.std.proofs.Common.{◌≡◌, ℕ, zero, suc, ◌^◌, ◌%◌, inl, inr, refl, sym, ap, subst, ◌∙◌, map, length, replicate, List, [], ◌∷◌, ◌++◌, arith}
 use Rattle.std.specs.List.{concat, zip}
 use Rattle.std.proofs.lemmas.List.{append_cancel_left}
+use Rattle.std.proofs.lemmas.Option.{same_Some}
 use Rattle.op_table.specs.Value.{op_value}
 use Rattle.port_types.specs.Token.{Fits}
 use Rattle.graph_core.specs.declared.kind.Kind.{Kind}
@@ -14,7 +15,7 @@ use Rattle.module_sem.specs.State.{Slot, HasNoTag, TagsDiffer, State, IsStateOf}
 use Rattle.module_sem.specs.Firing.{Label.Fire, FitEach, one_behind, Selects, FiresBranch, waiting, finished, FiresTagger, Fires}
 use Rattle.module_sem.specs.Run.{Step}
 use Rattle.module_sem.proofs.Names.{name_cases}
-use Rattle.module_sem.proofs.Steps.{acts_at, some_inj, share_same}
+use Rattle.module_sem.proofs.Steps.{acts_at, share_same}
 use Rattle.module_sem.proofs.Resting.{state_same}
 
 -- what is taken stands at the fronts of the input wires
@@ -156,7 +157,7 @@ module _ (wire : ℕ → List Token) (choice : ℕ) (old : List Slot) (differ : 
       gives_result tag tag2 v w e =
           let first : finished tag v ≡ finished tag2 w = cc in
           let rest : new ≡ new2 = cc in
-          (some_inj v w (ap (λ (x : Slot). x.result) first), rest)
+          (same_Some v w (ap (λ (x : Slot). x.result) first), rest)
 
       comes_back : (tag tag2 : ℕ) (v w : Token) (older newer older2 newer2 : List Slot) → (tag ∷ v ≡ tag2 ∷ w) → old ≡ older ++ waiting tag ∷ newer → old ≡ older2 ++ waiting tag2 ∷ newer2 →
           older ++ finished tag v ∷ newer ≡ older2 ++ finished tag2 w ∷ newer2

@@ -1,9 +1,9 @@
 -- A part refined, the whole refined: also where links from outside touch the part.
 use Rattle.std.proofs.Common.{◌≡◌, ℕ, ◌+◌, ◌⊎◌, inl, inr, Bool, true, false, not, is_some, sym, ap, subst, ◌∙◌, true≢false, List, [], ◌∷◌, ◌++◌, Some, None, arith}
+use Rattle.std.specs.List.{AllByRecursion}
 use Rattle.graph_core.specs.declared.kind.Kind.{Kind}
 use Rattle.graph_core.specs.declared.kind.Kind.TheVariants.{Entry, Exit}
 use Rattle.graph_core.specs.Name.{Name}
-use Rattle.module_sem.specs.Each.{Each}
 use Rattle.module_sem.specs.Circuit.{Circuit, Typed}
 use Rattle.module_sem.specs.Run.{Move, Shows}
 use Rattle.module_sem.specs.Plug.{Link, link_all, plug, beside, or_else, Apart, Joins, CanPlug}
@@ -20,15 +20,15 @@ use Rattle.module_sem.proofs.Splitting.{passing, failing, each_passing, once_pas
 abbrev pub touches : Circuit → Link → Bool
 touches rest l = is_some (or_else (rest.kind_at l.exit) (rest.kind_at l.entry))
 
-each_swap : (D : Link → Link → Type 0) (ls ms : List Link) → Each (λ l. Each (D l) ls) ms → Each (λ m. Each (λ l. D l m) ms) ls
+each_swap : (D : Link → Link → Type 0) (ls ms : List Link) → AllByRecursion (λ l. AllByRecursion (D l) ls) ms → AllByRecursion (λ m. AllByRecursion (λ l. D l m) ms) ls
 each_swap D [] ms h = tt
 each_swap D (l ∷ ls) ms h =
-    (each_map (λ x. Each (D x) (l ∷ ls)) (λ x. D x l) (λ x y. y.0) ms h, each_swap D ls ms (each_map (λ x. Each (D x) (l ∷ ls)) (λ x. Each (D x) ls) (λ x y. y.1) ms h))
+    (each_map (λ x. AllByRecursion (D x) (l ∷ ls)) (λ x. D x l) (λ x y. y.0) ms h, each_swap D ls ms (each_map (λ x. AllByRecursion (D x) (l ∷ ls)) (λ x. AllByRecursion (D x) ls) (λ x y. y.1) ms h))
 
 -- an Entry or Exit of the whole was one of the rest or of the part, and is no end of a link
 record Outer (rest g : Circuit) (ls : List Link) (n : Name) (k : Kind) : Type 0 where
   kind : (rest.kind_at n ≡ Some k) ⊎ ((rest.kind_at n ≡ None) × (g.kind_at n ≡ Some k))
-  free : Each (IsFree n) ls
+  free : AllByRecursion (IsFree n) ls
 
 module _ (rest g : Circuit) (ls : List Link) (tr : Typed rest) (tg : Typed g) (can : CanPlug rest ls g) where
   outer_end : (n : Name) (k : Kind) → IsEnd k → (plug rest ls g).kind_at n ≡ Some k → Outer rest g ls n k
@@ -36,15 +36,15 @@ module _ (rest g : Circuit) (ls : List Link) (tr : Typed rest) (tg : Typed g) (c
       let was = was_end ls (beside rest g) can.once (can_link_all rest g ls tr tg can) n k end e in
       record { kind = or_some (rest.kind_at n) (g.kind_at n) k was.kind; free = was.free }
 
-  rest_end : (n : Name) (k : Kind) → rest.kind_at n ≡ Some k → Each (IsFree n) ls → (plug rest ls g).kind_at n ≡ Some k
+  rest_end : (n : Name) (k : Kind) → rest.kind_at n ≡ Some k → AllByRecursion (IsFree n) ls → (plug rest ls g).kind_at n ≡ Some k
   rest_end n k e free = kind_free ls (beside rest g) n free ∙ kind_left rest g n k e
 
-  part_end : (n : Name) (k : Kind) → g.kind_at n ≡ Some k → Each (IsFree n) ls → (plug rest ls g).kind_at n ≡ Some k
+  part_end : (n : Name) (k : Kind) → g.kind_at n ≡ Some k → AllByRecursion (IsFree n) ls → (plug rest ls g).kind_at n ≡ Some k
   part_end n k e free = kind_free ls (beside rest g) n free ∙ kind_of_right rest g can.apart tr tg n k e
 
   -- c around the whole, with no name of its nodes
   module _ (c : Circuit) (ms : List Link) (tc : Typed c) (cl : CanPlug c ms (plug rest ls g)) (cr : Apart c rest) (cg : Apart c g) where
-    c_free : (n : Name) (k : Kind) → c.kind_at n ≡ Some k → Each (IsFree n) ls
+    c_free : (n : Name) (k : Kind) → c.kind_at n ≡ Some k → AllByRecursion (IsFree n) ls
     c_free n k e =
         each_map (λ m. Joins m rest g ⊎ Joins m g rest) (IsFree n)
         (λ m j. elim j [
@@ -64,9 +64,9 @@ module _ (rest g : Circuit) (ls : List Link) (tr : Typed rest) (tg : Typed g) (c
 
     record LinkEnds (l : Link) : Type 0 where
       to : ToRest l ⊎ ToPart l
-      apart : Each (Distinct l) ls
+      apart : AllByRecursion (Distinct l) ls
 
-    two_free : (l : Link) → Each (IsFree l.exit) ls → Each (IsFree l.entry) ls → Each (Distinct l) ls
+    two_free : (l : Link) → AllByRecursion (IsFree l.exit) ls → AllByRecursion (IsFree l.entry) ls → AllByRecursion (Distinct l) ls
     two_free l h k =
         each_both (IsFree l.exit) (IsFree l.entry) (Distinct l)
         (λ m x y. record { exits = λ e. x.0 (sym e); entries = λ e. y.1 (sym e); exit_entry = λ e. y.0 (sym e); entry_exit = λ e. x.1 (sym e) }) ls h k
@@ -110,7 +110,7 @@ module _ (rest g : Circuit) (ls : List Link) (tr : Typed rest) (tg : Typed g) (c
         let o = outer_end l.exit (Exit j.shape) tt j.exit in
         record { to = leads_out l j o; apart = two_free l o.free (c_free l.entry (Entry j.shape) j.entry) }
 
-    leads : Each LinkEnds ms
+    leads : AllByRecursion LinkEnds ms
     leads = each_map (λ l. Joins l c (plug rest ls g) ⊎ Joins l (plug rest ls g) c) LinkEnds ends_of_link ms cl.joins
 
     abbrev to_rest : List Link
@@ -119,28 +119,28 @@ module _ (rest g : Circuit) (ls : List Link) (tr : Typed rest) (tg : Typed g) (c
     abbrev to_part : List Link
     to_part = failing (touches rest) ms
 
-    rest_links : Each ToRest to_rest
+    rest_links : AllByRecursion ToRest to_rest
     rest_links =
         each_passing ToRest (touches rest) ms
         (each_map LinkEnds (λ l. touches rest l ≡ true → ToRest l)
         (λ l h e. elim h.to [ inl x ↦ x | inr x ↦ absurd (true≢false (sym e ∙ x.is)) ]) ms leads)
 
-    part_links : Each ToPart to_part
+    part_links : AllByRecursion ToPart to_part
     part_links =
         each_passing ToPart (λ l. not (touches rest l)) ms
         (each_map LinkEnds (λ l. not (touches rest l) ≡ true → ToPart l)
         (λ l h e. elim h.to [ inl x ↦ absurd (true≢false (sym e ∙ ap not x.is)) | inr x ↦ x ]) ms leads)
 
-    distinct : Each (λ l. Each (Distinct l) ls) ms
-    distinct = each_map LinkEnds (λ l. Each (Distinct l) ls) (λ l h. h.apart) ms leads
+    distinct : AllByRecursion (λ l. AllByRecursion (Distinct l) ls) ms
+    distinct = each_map LinkEnds (λ l. AllByRecursion (Distinct l) ls) (λ l h. h.apart) ms leads
 
-    part_distinct : Each (λ l. Each (Distinct l) ls) to_part
+    part_distinct : AllByRecursion (λ l. AllByRecursion (Distinct l) ls) to_part
     part_distinct =
-        each_passing (λ l. Each (Distinct l) ls) (λ l. not (touches rest l)) ms (each_map (λ l. Each (Distinct l) ls) (λ l. not (touches rest l) ≡ true → Each (Distinct l) ls) (λ l h e. h) ms distinct)
+        each_passing (λ l. AllByRecursion (Distinct l) ls) (λ l. not (touches rest l)) ms (each_map (λ l. AllByRecursion (Distinct l) ls) (λ l. not (touches rest l) ≡ true → AllByRecursion (Distinct l) ls) (λ l h e. h) ms distinct)
 
-    rest_distinct : Each (λ l. Each (Distinct l) ls) to_rest
+    rest_distinct : AllByRecursion (λ l. AllByRecursion (Distinct l) ls) to_rest
     rest_distinct =
-        each_passing (λ l. Each (Distinct l) ls) (touches rest) ms (each_map (λ l. Each (Distinct l) ls) (λ l. touches rest l ≡ true → Each (Distinct l) ls) (λ l h e. h) ms distinct)
+        each_passing (λ l. AllByRecursion (Distinct l) ls) (touches rest) ms (each_map (λ l. AllByRecursion (Distinct l) ls) (λ l. touches rest l ≡ true → AllByRecursion (Distinct l) ls) (λ l h e. h) ms distinct)
 
     outside_distinct : AreDistinct ms
     outside_distinct = are_distinct (beside c (plug rest ls g)) ms cl.once (can_link_all c (plug rest ls g) ms tc (plug_typed rest g ls tr tg can) cl)
@@ -153,7 +153,7 @@ module _ (rest g : Circuit) (ls : List Link) (tr : Typed rest) (tg : Typed g) (c
           once = once_passing (touches rest) ms cl.once;
         }
 
-    c_away : Each (Away c) ls
+    c_away : AllByRecursion (Away c) ls
     c_away =
         each_map (λ m. Joins m rest g ⊎ Joins m g rest) (Away c)
         (λ m j. elim j [
@@ -176,37 +176,37 @@ module _ (rest g : Circuit) (ls : List Link) (tr : Typed rest) (tg : Typed g) (c
         let (i, h) = some_kind to_rest (beside c rest) can_rest.once (can_link_all c rest to_rest tc tr can_rest) n k e in
         elim (or_some (c.kind_at n) (rest.kind_at n) i h) [ inl x ↦ cg n i m x f | inr x ↦ can.apart n i m x.1 f ]
 
-    free_exit : (m : Link) → Each (λ l. Distinct l m) to_rest → Each (IsFree m.exit) to_rest
+    free_exit : (m : Link) → AllByRecursion (λ l. Distinct l m) to_rest → AllByRecursion (IsFree m.exit) to_rest
     free_exit m d = each_map (λ l. Distinct l m) (IsFree m.exit) (λ l x. (x.exits, x.exit_entry)) to_rest d
 
-    free_entry : (m : Link) → Each (λ l. Distinct l m) to_rest → Each (IsFree m.entry) to_rest
+    free_entry : (m : Link) → AllByRecursion (λ l. Distinct l m) to_rest → AllByRecursion (IsFree m.entry) to_rest
     free_entry m d = each_map (λ l. Distinct l m) (IsFree m.entry) (λ l x. (x.entry_exit, x.entries)) to_rest d
 
-    around_rest : (n : Name) (k : Kind) → rest.kind_at n ≡ Some k → Each (IsFree n) to_rest → (plug c to_rest rest).kind_at n ≡ Some k
+    around_rest : (n : Name) (k : Kind) → rest.kind_at n ≡ Some k → AllByRecursion (IsFree n) to_rest → (plug c to_rest rest).kind_at n ≡ Some k
     around_rest n k e free = kind_free to_rest (beside c rest) n free ∙ kind_of_right c rest cr tc tr n k e
 
-    around_c : (n : Name) (k : Kind) → c.kind_at n ≡ Some k → Each (IsFree n) to_rest → (plug c to_rest rest).kind_at n ≡ Some k
+    around_c : (n : Name) (k : Kind) → c.kind_at n ≡ Some k → AllByRecursion (IsFree n) to_rest → (plug c to_rest rest).kind_at n ≡ Some k
     around_c n k e free = kind_free to_rest (beside c rest) n free ∙ kind_left c rest n k e
 
     abbrev JoinsPart : Link → Type 0
     JoinsPart m = Joins m (plug c to_rest rest) g ⊎ Joins m g (plug c to_rest rest)
 
-    from_rest : (m : Link) → Joins m rest g ⊎ Joins m g rest → Each (λ l. Distinct l m) to_rest → JoinsPart m
+    from_rest : (m : Link) → Joins m rest g ⊎ Joins m g rest → AllByRecursion (λ l. Distinct l m) to_rest → JoinsPart m
     from_rest m (inl j) d = inl (record { shape = j.shape; exit = around_rest m.exit (Exit j.shape) j.exit (free_exit m d); entry = j.entry })
     from_rest m (inr j) d = inr (record { shape = j.shape; exit = j.exit; entry = around_rest m.entry (Entry j.shape) j.entry (free_entry m d) })
 
-    from_c : (m : Link) → Joins m c g ⊎ Joins m g c → Each (λ l. Distinct l m) to_rest → JoinsPart m
+    from_c : (m : Link) → Joins m c g ⊎ Joins m g c → AllByRecursion (λ l. Distinct l m) to_rest → JoinsPart m
     from_c m (inl j) d = inl (record { shape = j.shape; exit = around_c m.exit (Exit j.shape) j.exit (free_exit m d); entry = j.entry })
     from_c m (inr j) d = inr (record { shape = j.shape; exit = j.exit; entry = around_c m.entry (Entry j.shape) j.entry (free_entry m d) })
 
-    part_joins : Each JoinsPart to_part
+    part_joins : AllByRecursion JoinsPart to_part
     part_joins =
-        each_both ToPart (λ m. Each (Distinct m) to_rest) JoinsPart (λ m o d. from_c m o.joins (distinct_back m to_rest d))
+        each_both ToPart (λ m. AllByRecursion (Distinct m) to_rest) JoinsPart (λ m o d. from_c m o.joins (distinct_back m to_rest d))
         to_part part_links (failing_apart (touches rest) ms outside_distinct)
 
-    rest_joins : Each JoinsPart ls
+    rest_joins : AllByRecursion JoinsPart ls
     rest_joins =
-        each_both (λ m. Joins m rest g ⊎ Joins m g rest) (λ m. Each (λ l. Distinct l m) to_rest) JoinsPart from_rest
+        each_both (λ m. Joins m rest g ⊎ Joins m g rest) (λ m. AllByRecursion (λ l. Distinct l m) to_rest) JoinsPart from_rest
         ls can.joins (each_swap Distinct ls to_rest rest_distinct)
 
     can_around : CanPlug (plug c to_rest rest) (to_part ++ ls) g

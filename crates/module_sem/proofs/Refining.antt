@@ -1,15 +1,15 @@
 -- A simulation is a refinement.
 use Rattle.std.proofs.Common.{◌≡◌, ◌≢◌, ℕ, ◌⊎◌, inl, inr, refl, sym, ap, subst, ◌∙◌, if◌then◌else◌, List, [], ◌∷◌, Option, Some, None}
+use Rattle.std.specs.List.{AllByRecursion}
+use Rattle.std.proofs.lemmas.Option.{same_Some}
 use Rattle.op_table.specs.Laws.{ValueFits}
 use Rattle.graph_core.specs.declared.kind.Kind.TheVariants.{Entry, Exit}
 use Rattle.graph_core.specs.Name.{Name, Port, port_get}
 use Rattle.graph_core.specs.Kind.{Shape, outs}
-use Rattle.module_sem.specs.Each.{Each}
 use Rattle.module_sem.specs.Circuit.{Circuit, Typed}
 use Rattle.module_sem.specs.Plug.{Link, link, link_all, redirect, plug, beside, or_else, Apart, Joins, UsesNoneTwice, CanPlug}
 use Rattle.module_sem.specs.Refines.{SamePorts, Refines}
 use Rattle.module_sem.proofs.Names.{name_cases}
-use Rattle.module_sem.proofs.Steps.{some_inj}
 use Rattle.module_sem.proofs.Sim.{Sim, sim_shows}
 use Rattle.module_sem.proofs.Linking.{CanLink, link_sim, kind_other}
 use Rattle.module_sem.proofs.Beside.{beside_sim, apart_none, apart_sym, kind_left, kind_right}
@@ -24,8 +24,8 @@ still_nothing_at : (l m : Link) (c : Circuit) (a : Shape) → CanLink m c a → 
 still_nothing_at l m c a h ne p q None f e = let g : None ≡ Some q = e in cc
 still_nothing_at l m c a h ne p q (Some r) f e =
     elim (name_cases r.node l.entry) [
-      | inl is ↦ λ e2. ne (sym e2 ∙ sym (ap (λ (x : Port). x.node) (some_inj _ q (sym (ap (λ b. Some (if b then record { node = l.exit; port = r.port } else r)) is.test) ∙ e))))
-      | inr other ↦ λ e2. h.nothing p r f (ap (λ (x : Port). x.node) (some_inj _ q (sym (ap (λ b. Some (if b then record { node = l.exit; port = r.port } else r)) other.test) ∙ e)) ∙ e2)
+      | inl is ↦ λ e2. ne (sym e2 ∙ sym (ap (λ (x : Port). x.node) (same_Some _ q (sym (ap (λ b. Some (if b then record { node = l.exit; port = r.port } else r)) is.test) ∙ e))))
+      | inr other ↦ λ e2. h.nothing p r f (ap (λ (x : Port). x.node) (same_Some _ q (sym (ap (λ b. Some (if b then record { node = l.exit; port = r.port } else r)) other.test) ∙ e)) ∙ e2)
     ]
 
 -- a link leaves the others
@@ -37,7 +37,7 @@ still l m c a b hl hm nx ne =
       nothing = λ p q e. still_nothing_at l m c b hm nx p q (c.feeder p) refl e;
     }
 
-pub still_all : (l : Link) (x y : Circuit) → Both l x y → (ls : List Link) → Each (λ m. (m.exit ≢ l.exit) × (m.entry ≢ l.entry)) ls → Each (λ m. Both m x y) ls → Each (λ m. Both m (link l x) (link l y)) ls
+pub still_all : (l : Link) (x y : Circuit) → Both l x y → (ls : List Link) → AllByRecursion (λ m. (m.exit ≢ l.exit) × (m.entry ≢ l.entry)) ls → AllByRecursion (λ m. Both m x y) ls → AllByRecursion (λ m. Both m (link l x) (link l y)) ls
 still_all l x y b [] n h = tt
 still_all l x y b (m ∷ ms) n h = (
   record {
@@ -48,7 +48,7 @@ still_all l x y b (m ∷ ms) n h = (
   still_all l x y b ms n.1 h.1,
 )
 
-pub link_all_sim : (ls : List Link) (x y : Circuit) → UsesNoneTwice ls → Each (λ l. Both l x y) ls → Sim x y → Sim (link_all ls x) (link_all ls y)
+pub link_all_sim : (ls : List Link) (x y : Circuit) → UsesNoneTwice ls → AllByRecursion (λ l. Both l x y) ls → Sim x y → Sim (link_all ls x) (link_all ls y)
 link_all_sim [] x y n h sim = sim
 link_all_sim (l ∷ ls) x y n h sim =
     link_all_sim ls (link l x) (link l y) n.1 (still_all l x y h.0 ls n.0 h.1) (link_sim l x y h.0.shape h.0.new h.0.old sim)
@@ -60,12 +60,12 @@ no_out a k b i e f = let g : None ≡ Some b = subst (λ x. port_get (outs x) i 
 pub exit_feeds_none : (c : Circuit) → Typed c → (n : Name) (a : Shape) → c.kind_at n ≡ Some (Exit a) → (p q : Port) → c.feeder p ≡ Some q → q.node ≢ n
 exit_feeds_none c ty n a e p q f is =
     let w = ty.wires p q f in
-    no_out a w.source w.shape q.port (some_inj w.source (Exit a) (sym w.is_source ∙ ap c.kind_at is ∙ e)) w.leaves
+    no_out a w.source w.shape q.port (same_Some w.source (Exit a) (sym w.is_source ∙ ap c.kind_at is ∙ e)) w.leaves
 
 none_fed_at : (c d : Circuit) → Typed d → (n : Name) → d.kind_at n ≡ None → (p q : Port) (o : Option Port) → c.feeder p ≡ o → ((r : Port) → c.feeder p ≡ Some r → r.node ≢ n) → or_else o (d.feeder p) ≡ Some q → q.node ≢ n
 none_fed_at c d td n e p q None f h g is =
     let w = td.wires p q g in let k : None ≡ Some w.source = sym e ∙ ap d.kind_at (sym is) ∙ w.is_source in cc
-none_fed_at c d td n e p q (Some r) f h g is = h r f (ap (λ (x : Port). x.node) (some_inj r q g) ∙ is)
+none_fed_at c d td n e p q (Some r) f h g is = h r f (ap (λ (x : Port). x.node) (same_Some r q g) ∙ is)
 
 none_fed : (c d : Circuit) → Typed d → (n : Name) → d.kind_at n ≡ None → ((p r : Port) → c.feeder p ≡ Some r → r.node ≢ n) → (p q : Port) → (beside c d).feeder p ≡ Some q → q.node ≢ n
 none_fed c d td n e h p q g = none_fed_at c d td n e p q (c.feeder p) refl (h p) g
@@ -73,7 +73,7 @@ none_fed c d td n e h p q g = none_fed_at c d td n e p q (c.feeder p) refl (h p)
 none_fed_right_at : (c d : Circuit) → Typed c → (n : Name) → c.kind_at n ≡ None → (p q : Port) (o : Option Port) → c.feeder p ≡ o → ((r : Port) → d.feeder p ≡ Some r → r.node ≢ n) → or_else o (d.feeder p) ≡ Some q → q.node ≢ n
 none_fed_right_at c d tc n e p q None f h g is = h q g is
 none_fed_right_at c d tc n e p q (Some r) f h g is =
-    let w = tc.wires p r f in let k : None ≡ Some w.source = sym e ∙ ap c.kind_at (sym (ap (λ (x : Port). x.node) (some_inj r q g) ∙ is)) ∙ w.is_source in cc
+    let w = tc.wires p r f in let k : None ≡ Some w.source = sym e ∙ ap c.kind_at (sym (ap (λ (x : Port). x.node) (same_Some r q g) ∙ is)) ∙ w.is_source in cc
 
 -- what joins c and g can be linked where they stand side by side
 pub joined_out : (c g : Circuit) (l : Link) → Apart c g → Typed c → Typed g → (j : Joins l c g) → CanLink l (beside c g) j.shape
@@ -107,7 +107,7 @@ both_one c h g l ch cg tc th tg same (inr j) =
       old = joined_in c g l cg tc tg (record { shape = j.shape; exit = (same.exits l.exit j.shape).0 j.exit; entry = j.entry });
     }
 
-both_all : (c h g : Circuit) → Apart c h → Apart c g → Typed c → Typed h → Typed g → SamePorts h g → (ls : List Link) → Each (λ l. Joins l c h ⊎ Joins l h c) ls → Each (λ l. Both l (beside c h) (beside c g)) ls
+both_all : (c h g : Circuit) → Apart c h → Apart c g → Typed c → Typed h → Typed g → SamePorts h g → (ls : List Link) → AllByRecursion (λ l. Joins l c h ⊎ Joins l h c) ls → AllByRecursion (λ l. Both l (beside c h) (beside c g)) ls
 both_all c h g ch cg tc th tg same [] j = tt
 both_all c h g ch cg tc th tg same (l ∷ ls) j = (both_one c h g l ch cg tc th tg same j.0, both_all c h g ch cg tc th tg same ls j.1)
 

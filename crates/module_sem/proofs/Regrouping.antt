@@ -1,9 +1,9 @@
 -- Circuits side by side and links may be regrouped.
 use Rattle.std.proofs.Common.{◌≡◌, ◌≢◌, inl, inr, refl, sym, ap, ◌∙◌, bytes_eq, if◌then◌else◌, List, [], ◌∷◌, ◌++◌, Option, Some, None}
+use Rattle.std.specs.List.{AllByRecursion}
 use Rattle.graph_core.specs.declared.kind.Kind.{Kind}
 use Rattle.graph_core.specs.declared.kind.Kind.TheVariants.{Exit}
 use Rattle.graph_core.specs.Name.{Name, Port}
-use Rattle.module_sem.specs.Each.{Each}
 use Rattle.module_sem.specs.Circuit.{Circuit, Typed}
 use Rattle.module_sem.specs.Plug.{Link, link, link_all, redirect, as_buffer, beside, or_else}
 use Rattle.module_sem.proofs.Names.{name_cases, other_test, same_test}
@@ -77,11 +77,11 @@ module _ (c d : Circuit) (l : Link) (aw : Away d l) (ty : Typed d) where
   link_left : beside (link l c) d ≡ link l (beside c d)
   link_left = circuit_same _ _ (λ n. left_kind n (d.kind_at n) refl) (λ p. left_feeder p (c.feeder p) (d.feeder p) refl)
 
-pub link_all_right : (ls : List Link) (c d : Circuit) → Typed c → Each (Away c) ls → beside c (link_all ls d) ≡ link_all ls (beside c d)
+pub link_all_right : (ls : List Link) (c d : Circuit) → Typed c → AllByRecursion (Away c) ls → beside c (link_all ls d) ≡ link_all ls (beside c d)
 link_all_right [] c d ty h = refl
 link_all_right (l ∷ ls) c d ty h = link_all_right ls c (link l d) ty h.1 ∙ ap (link_all ls) (link_right c d l h.0 ty)
 
-pub link_all_left : (ls : List Link) (c d : Circuit) → Typed d → Each (Away d) ls → beside (link_all ls c) d ≡ link_all ls (beside c d)
+pub link_all_left : (ls : List Link) (c d : Circuit) → Typed d → AllByRecursion (Away d) ls → beside (link_all ls c) d ≡ link_all ls (beside c d)
 link_all_left [] c d ty h = refl
 link_all_left (l ∷ ls) c d ty h = link_all_left ls (link l c) d ty h.1 ∙ ap (link_all ls) (link_left c d l h.0 ty)
 
@@ -128,11 +128,11 @@ module _ (l m : Link) (h : Distinct l m) (c : Circuit) where
   link_swap : link l (link m c) ≡ link m (link l c)
   link_swap = circuit_same _ _ (λ n. swap_kind n (c.kind_at n)) (λ p. swap_feeder (c.feeder p))
 
-pub link_past : (l : Link) (ls : List Link) (c : Circuit) → Each (Distinct l) ls → link_all ls (link l c) ≡ link l (link_all ls c)
+pub link_past : (l : Link) (ls : List Link) (c : Circuit) → AllByRecursion (Distinct l) ls → link_all ls (link l c) ≡ link l (link_all ls c)
 link_past l [] c h = refl
 link_past l (m ∷ ms) c h = ap (link_all ms) (sym (link_swap l m h.0 c)) ∙ link_past l ms (link m c) h.1
 
-pub link_all_swap : (ls ms : List Link) (c : Circuit) → Each (λ l. Each (Distinct l) ls) ms → link_all ms (link_all ls c) ≡ link_all ls (link_all ms c)
+pub link_all_swap : (ls ms : List Link) (c : Circuit) → AllByRecursion (λ l. AllByRecursion (Distinct l) ls) ms → link_all ms (link_all ls c) ≡ link_all ls (link_all ms c)
 link_all_swap ls [] c h = refl
 link_all_swap ls (m ∷ ms) c h = ap (link_all ms) (sym (link_past m ls c h.0)) ∙ link_all_swap ls ms (link m c) h.1
 

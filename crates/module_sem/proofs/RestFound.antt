@@ -3,12 +3,13 @@ use Rattle.std.proofs.Common.{◌≡◌, ◌≢◌, ℕ, zero, suc, ◌≤◌, �
 use Rattle.std.specs.FinMap as finite
 use Rattle.std.specs.FinMap.{get-entries}
 use Rattle.std.specs.FinMap.Entries.{find}
+use Rattle.std.specs.List.{AllByRecursion}
+use Rattle.std.proofs.lemmas.Option.{same_Some}
 use Rattle.graph_core.specs.declared.kind.Kind.{Kind}
 use Rattle.graph_core.specs.declared.kind.Kind.TheVariants.{Buffer, Fork, Init}
 use Rattle.graph_core.specs.Name.{Name, Port, name_cmp}
 use Rattle.graph_core.specs.Node.{Body}
 use Rattle.graph_core.specs.NamedGraph.{NamedGraph}
-use Rattle.module_sem.specs.Each.{Each}
 use Rattle.module_sem.specs.PortTokens.{Token, one, at_port, share, share_from}
 use Rattle.module_sem.specs.Circuit.{Circuit, circuit_of, kind_of, kind_of_body}
 use Rattle.module_sem.specs.State.{Slot, State, start, initial}
@@ -18,7 +19,7 @@ use Rattle.module_sem.specs.Buffers.{first_port}
 use Rattle.module_sem.specs.Root.{PassesThrough}
 use Rattle.module_sem.specs.Drains.{Led, IsRest}
 use Rattle.module_sem.proofs.Names.{name_cases}
-use Rattle.module_sem.proofs.Steps.{acts_at, some_inj, share_same, share_other}
+use Rattle.module_sem.proofs.Steps.{acts_at, share_same, share_other}
 use Rattle.module_sem.proofs.Maps.{name_test}
 use Rattle.module_sem.proofs.MadeSteps.{Deed, after, step_made}
 use Rattle.module_sem.proofs.Resting.{Passed, passes_one, given_for}
@@ -109,7 +110,7 @@ module _ (c : Circuit) where
   ready_kind s n (Some k) e =
       elim (passes_cases k) [
         | inl passes ↦ ready_at s n k e passes (s.wires (first_port n)) refl
-        | inr stays ↦ inr (λ r. stays (subst PassesThrough (some_inj r.kind k (sym r.is_kind ∙ e)) r.passes))
+        | inr stays ↦ inr (λ r. stays (subst PassesThrough (same_Some r.kind k (sym r.is_kind ∙ e)) r.passes))
       ]
 
   ready_or_not : (s : State) (n : Name) → Ready s n ⊎ (Ready s n → ⊥)
@@ -282,7 +283,7 @@ module _ (c : Circuit) where
   -- led firings until none is left
   record Found (s : State) : Type 0 where
     firings : List Firing
-    led : Each (λ f. Led c f.node) firings
+    led : AllByRecursion (λ f. Led c f.node) firings
     end : State
     leads : Firings c s firings end
     ends : (n : Name) (choice : ℕ) (t : State) → Led c n → Step c end n (Fire choice) t → ⊥

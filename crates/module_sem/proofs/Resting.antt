@@ -1,10 +1,10 @@
 -- The rest state is one, in whatever order the led nodes fire.
 use Rattle.std.proofs.Common.{◌≡◌, ◌≢◌, ◌⊎◌, ℕ, inl, inr, refl, sym, ap, subst, ◌∙◌, bytes_eq, if◌then◌else◌, List, [], ◌∷◌, ◌++◌, Option, Some, None, replicate, append-nil, append_assoc}
 use Rattle.std.proofs.lemmas.List.{append_cancel_left}
+use Rattle.std.specs.List.{AllByRecursion}
 use Rattle.graph_core.specs.declared.kind.Kind.{Kind}
 use Rattle.graph_core.specs.declared.kind.Kind.TheVariants.{Buffer, Fork}
 use Rattle.graph_core.specs.Name.{Name, Port}
-use Rattle.module_sem.specs.Each.{Each}
 use Rattle.module_sem.specs.PortTokens.{Token, one, share, share_from}
 use Rattle.module_sem.specs.Circuit.{Circuit}
 use Rattle.module_sem.specs.State.{Slot, State, start}
@@ -199,11 +199,11 @@ Ends c t = (n : Name) (choice : ℕ) (w : State) → Led c n → Step c t n (Fir
 -- a led node that can fire can do so first
 record Without (c : Circuit) (t u : State) : Type 0 where
   firings : List Firing
-  led : Each (λ f. Led c f.node) firings
+  led : AllByRecursion (λ f. Led c f.node) firings
   leads : Firings c t firings u
 
 module _ (c : Circuit) (u : State) (ends : Ends c u) where
-  first : (s t : State) (f : Firing) (gs : List Firing) → Led c f.node → Step c s f.node (Fire f.choice) t → Each (λ g. Led c g.node) gs → Firings c s gs u → Without c t u
+  first : (s t : State) (f : Firing) (gs : List Firing) → Led c f.node → Step c s f.node (Fire f.choice) t → AllByRecursion (λ g. Led c g.node) gs → Firings c s gs u → Without c t u
   first s t f [] led st all run = absurd (ends f.node f.choice t led (subst (λ x. Step c x f.node (Fire f.choice) t) run st))
   first s t f (g ∷ gs) led st all run =
       elim (name_cases f.node g.node) [
@@ -217,11 +217,11 @@ module _ (c : Circuit) (u : State) (ends : Ends c u) where
             record { firings = g ∷ go.firings; led = (all.0, go.led); leads = (x, later, go.leads) }
       ]
 
-  stays : (s : State) (gs : List Firing) → Each (λ g. Led c g.node) gs → Firings c s gs u → Ends c s → s ≡ u
+  stays : (s : State) (gs : List Firing) → AllByRecursion (λ g. Led c g.node) gs → Firings c s gs u → Ends c s → s ≡ u
   stays s [] all run none = run
   stays s (g ∷ gs) all run none = absurd (none g.node g.choice run.0 all.0 run.1)
 
-  same_end : (s r : State) (fs gs : List Firing) → Each (λ f. Led c f.node) fs → Firings c s fs r → Ends c r → Each (λ g. Led c g.node) gs → Firings c s gs u → r ≡ u
+  same_end : (s r : State) (fs gs : List Firing) → AllByRecursion (λ f. Led c f.node) fs → Firings c s fs r → Ends c r → AllByRecursion (λ g. Led c g.node) gs → Firings c s gs u → r ≡ u
   same_end s r [] gs led run none all other = sym run ∙ stays s gs all other (subst (Ends c) (sym run) none)
   same_end s r (f ∷ fs) gs led run none all other =
       let go = first s run.0 f gs led.0 run.1 all other in

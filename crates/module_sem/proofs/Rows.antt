@@ -1,9 +1,10 @@
 -- A node of each kind keeps a state: where what it takes fits, what it gives fits, and its slots do, with tags that differ.
 use Rattle.std.proofs.Common.{◌≡◌, ◌^◌, ◌%◌, ◌<◌, ◌≤◌, inl, inr, ℕ, zero, suc, sym, subst, map, length, replicate, List, [], ◌∷◌, ◌++◌, Some, None, arith, mod-lt}
-use Rattle.std.specs.List.{concat, zip}
+use Rattle.std.specs.List.{concat, zip, AllByRecursion}
 use Rattle.std.proofs.lemmas.Nat.{pow_pos}
 use Rattle.std.proofs.lemmas.List.Elements.{All-nil, All-cons}
 use Rattle.std.proofs.lemmas.Slice.Zip.{firsts-zip}
+use Rattle.std.proofs.lemmas.Option.{same_Some}
 use Rattle.op_table.specs.declared.op.Op.{Op}
 use Rattle.op_table.specs.Operator.{IsTypedOp}
 use Rattle.op_table.specs.Value.{InputsFit, op_value}
@@ -13,11 +14,9 @@ use Rattle.graph_core.specs.declared.kind.Kind.{Kind}
 use Rattle.graph_core.specs.declared.kind.Kind.TheVariants.{Entry, Exit, Buffer, Fork, Join, Split, Operator, Constant, Source0, Sink0, Mux, Branch, Merge, CtrlMerge, Init, Tagger}
 use Rattle.graph_core.specs.Name.{port_get}
 use Rattle.graph_core.specs.Kind.{Shape, field, ins, outs, KindOk}
-use Rattle.module_sem.specs.Each.{Each}
 use Rattle.module_sem.specs.PortTokens.{Token, single, one}
 use Rattle.module_sem.specs.State.{Slot, SlotFits, TagsDiffer, initial}
 use Rattle.module_sem.specs.Firing.{Label, Label.Feed, Label.Take, Label.Fire, FitEach, one_behind, Selects, FiresBranch, Acts, Fires}
-use Rattle.module_sem.proofs.Steps.{some_inj}
 use Rattle.module_sem.proofs.Sides.{SideFits, Kept}
 use Rattle.module_sem.proofs.TaggerRow.{tagger_fits}
 
@@ -88,13 +87,13 @@ value_fits values op widths numbers width typed e h =
 record Before (k : Kind) (old : List Slot) (taken : List (List Token)) : Type 0 where
   ok : KindOk k
   side : SideFits (ins k) taken
-  slots : Each (SlotFits k) old
+  slots : AllByRecursion (SlotFits k) old
   tags : TagsDiffer old
 
 -- the slots stay as they were
 still : (k : Kind) (old : List Slot) (taken given : List (List Token)) (new : List Slot) → Before k old taken → new ≡ old → SideFits (outs k) given → Kept k given new
 still k old taken given new before same side =
-    record { side = side; slots = subst (Each (SlotFits k)) (sym same) before.slots; tags = subst TagsDiffer (sym same) before.tags }
+    record { side = side; slots = subst (AllByRecursion (SlotFits k)) (sym same) before.slots; tags = subst TagsDiffer (sym same) before.tags }
 
 fires_fit : ValueFits → (k : Kind) (choice : ℕ) (old : List Slot) (taken given : List (List Token)) (new : List Slot) → Fires k choice old taken given new → Before k old taken → Kept k given new
 fires_fit values (Entry a) choice old taken given new fires before = absurd fires
@@ -143,16 +142,16 @@ acts_kept values (Exit a) (Take v) old taken given new (et, eg, en) before = sti
 acts_kept values _ _ old taken given new acts before = absurd acts
 
 pub acts_fit : ValueFits → (k : Kind) → KindOk k → (l : Label) (old : List Slot) (taken given : List (List Token)) (new : List Slot) → Acts k l old taken given new →
-    SideFits (ins k) taken → Each (SlotFits k) old → TagsDiffer old → Kept k given new
+    SideFits (ins k) taken → AllByRecursion (SlotFits k) old → TagsDiffer old → Kept k given new
 acts_fit values k ok l old taken given new acts side slots tags =
     acts_kept values k l old taken given new acts (record { ok = ok; side = side; slots = slots; tags = tags })
 
 -- what a wire holds at the start fits the output that feeds it
-init_fits : (i value : ℕ) (a : Shape) → value ≤ 1 → port_get (field 1 ∷ []) i ≡ Some a → Each (Fits a) (one (single value))
+init_fits : (i value : ℕ) (a : Shape) → value ≤ 1 → port_get (field 1 ∷ []) i ≡ Some a → AllByRecursion (Fits a) (one (single value))
 init_fits zero value a few e = let k : None ≡ Some a = e in cc
-init_fits (suc zero) value a few e = subst (λ z. Each (Fits z) (one (single value))) (some_inj (field 1) a e) ((omega (arith, few), tt), tt)
+init_fits (suc zero) value a few e = subst (λ z. AllByRecursion (Fits z) (one (single value))) (same_Some (field 1) a e) ((omega (arith, few), tt), tt)
 init_fits (suc (suc i)) value a few e = let k : None ≡ Some a = e in cc
 
-pub initial_fit : (k : Kind) → KindOk k → (i : ℕ) (a : Shape) → port_get (outs k) i ≡ Some a → Each (Fits a) (initial (Some k))
+pub initial_fit : (k : Kind) → KindOk k → (i : ℕ) (a : Shape) → port_get (outs k) i ≡ Some a → AllByRecursion (Fits a) (initial (Some k))
 initial_fit (Init value mark) ok i a e = init_fits i value a ok.0 e
 initial_fit _ ok i a e = tt

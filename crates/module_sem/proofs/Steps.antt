@@ -1,5 +1,6 @@
 -- What a step takes and gives.
 use Rattle.std.proofs.Common.{◌≡◌, ◌≢◌, refl, sym, ap, subst, ◌∙◌, true, false, bytes_eq, if◌then◌else◌, List, [], ◌++◌, Option, Some, None, append-nil}
+use Rattle.std.proofs.lemmas.Option.{same_Some}
 use Rattle.graph_core.specs.declared.kind.Kind.{Kind}
 use Rattle.graph_core.specs.Name.{Name, Port}
 use Rattle.module_sem.specs.PortTokens.{Token, share, share_from, at_port}
@@ -9,13 +10,10 @@ use Rattle.module_sem.specs.Firing.{Label, Acts}
 use Rattle.module_sem.specs.Run.{Step}
 use Rattle.module_sem.proofs.Names.{other_test, same_test}
 
-pub some_inj : {A : Type 0} (x y : A) → Some x ≡ Some y → x ≡ y
-some_inj x y e = cc
-
 -- a node acts as its kind does
 pub acts_at : (c : Circuit) (s : State) (n : Name) (l : Label) (t : State) (st : Step c s n l t) (k : Kind) → c.kind_at n ≡ Some k → Acts k l (s.slots n) st.taken st.given (t.slots n)
 acts_at c s n l t st k e =
-    subst (λ x. Acts x l (s.slots n) st.taken st.given (t.slots n)) (some_inj st.kind k (sym st.is_kind ∙ e)) st.acts
+    subst (λ x. Acts x l (s.slots n) st.taken st.given (t.slots n)) (same_Some st.kind k (sym st.is_kind ∙ e)) st.acts
 
 pub share_none : (n : Name) (p : Port) → share n [] p ≡ []
 share_none n p = elim (bytes_eq p.node n) as (λ b. (if b then at_port [] p.port else []) ≡ []) [ true ↦ refl | false ↦ refl ]

@@ -1,10 +1,10 @@
 -- A Tagger alone gives no result while the oldest token has none.
 use Rattle.std.proofs.Common.{◌≡◌, ◌≢◌, ℕ, zero, suc, ◌⊎◌, inl, inr, refl, sym, ap, subst, ◌∙◌, map, List, [], ◌∷◌, ◌++◌, Some, None, append-nil, append_assoc}
+use Rattle.std.specs.List.{AllByRecursion}
 use Rattle.graph_core.specs.declared.kind.Kind.{Kind}
 use Rattle.graph_core.specs.declared.kind.Kind.TheVariants.{Entry, Exit, Tagger}
 use Rattle.graph_core.specs.Name.{Name}
 use Rattle.graph_core.specs.Kind.{Shape, tagged}
-use Rattle.module_sem.specs.Each.{Each}
 use Rattle.module_sem.specs.PortTokens.{Token, one, at_port}
 use Rattle.module_sem.specs.Circuit.{Circuit, circuit_of}
 use Rattle.module_sem.specs.State.{Slot, State, start, TagsDiffer}
@@ -83,7 +83,7 @@ module _ (shape : Shape) (tags : ℕ) where
   abbrev Sort : Name → Kind → Type 0
   Sort n k = ((choice : ℕ) (old : List Slot) (taken given : List (List Token)) (new : List Slot) → Acts k (Fire choice) old taken given new → ⊥) ⊎ ((n ≡ tagger) × (k ≡ Tagger shape tags))
 
-  sorts : Each (λ node. Sort node.name node.kind) (tagger_nodes shape tags)
+  sorts : AllByRecursion (λ node. Sort node.name node.kind) (tagger_nodes shape tags)
   sorts = (
     inl (λ choice old taken given new h. h),
     (
@@ -177,7 +177,7 @@ module _ (shape : Shape) (tags : ℕ) where
   record Held (tag : ℕ) (s : State) : Type 0 where
     newer : List Slot
     slots : s.slots tagger ≡ waiting tag ∷ newer
-    back : Each (λ v. tag_of v ≢ tag) (s.wires (second_port tagger))
+    back : AllByRecursion (λ v. tag_of v ≢ tag) (s.wires (second_port tagger))
     results : s.wires (first_port results) ≡ []
 
   held_fired : (oldest : ℕ) (s : State) (choice : ℕ) (t : State) (st : Step c s tagger (Fire choice) t) →
@@ -188,20 +188,20 @@ module _ (shape : Shape) (tags : ℕ) where
       some_first : (x y : Slot) (xs ys : List Slot) → x ∷ xs ≡ y ∷ ys → x ≡ y
       some_first x y xs ys e = cc
   held_fired oldest s (suc zero) t st (tag, v, older, newer, eo, en, et, eg) h =
-      let all : Each (λ x. tag_of x ≢ oldest) ((tag ∷ v) ∷ st.between (second_port tagger)) =
-      subst (Each (λ x. tag_of x ≢ oldest)) (st.takes (second_port tagger) ∙ ap (λ z. at_port z 2 ++ st.between (second_port tagger)) et) h.back in
+      let all : AllByRecursion (λ x. tag_of x ≢ oldest) ((tag ∷ v) ∷ st.between (second_port tagger)) =
+      subst (AllByRecursion (λ x. tag_of x ≢ oldest)) (st.takes (second_port tagger) ∙ ap (λ z. at_port z 2 ++ st.between (second_port tagger)) et) h.back in
       let (rest, e) = still_oldest oldest tag v older newer h.newer all.0 (sym h.slots ∙ eo) in
       record {
         newer = rest;
         slots = en ∙ e;
-        back = subst (Each (λ x. tag_of x ≢ oldest)) (sym (append-nil (st.between (second_port tagger))) ∙ sym (st.gives (second_port tagger))) all.1;
+        back = subst (AllByRecursion (λ x. tag_of x ≢ oldest)) (sym (append-nil (st.between (second_port tagger))) ∙ sym (st.gives (second_port tagger))) all.1;
         results = st.gives (first_port results) ∙ (λ i. sym (st.takes (first_port results)) i ++ at_port (eg i) 2) ∙ append-nil (s.wires (first_port results)) ∙ h.results;
       }
   held_fired oldest s (suc (suc tag)) t st (v, below, none, en, et, eg) h =
       record {
         newer = h.newer ++ waiting tag ∷ [];
         slots = en ∙ ap (λ z. z ++ waiting tag ∷ []) h.slots;
-        back = subst (Each (λ x. tag_of x ≢ oldest))
+        back = subst (AllByRecursion (λ x. tag_of x ≢ oldest))
             (st.takes (second_port tagger) ∙ ap (λ z. at_port z 2 ++ st.between (second_port tagger)) et ∙ sym (append-nil (st.between (second_port tagger))) ∙ sym (st.gives (second_port tagger))) h.back;
         results = st.gives (first_port results) ∙ (λ i. sym (st.takes (first_port results)) i ++ at_port (eg i) 2) ∙ append-nil (s.wires (first_port results)) ∙ h.results;
       }
@@ -217,7 +217,7 @@ module _ (shape : Shape) (tags : ℕ) where
       record {
         newer = map waiting (second ∷ map tag_of (s.wires (first_port work)));
         slots = st.others tagger (λ e. cc) ∙ w.slots;
-        back = subst (Each (λ x. tag_of x ≢ first))
+        back = subst (AllByRecursion (λ x. tag_of x ≢ first))
             (sym (st.gives (second_port tagger) ∙ (λ i. (sym (st.takes (second_port tagger)) ∙ w.back) i ++ at_port (eg i) 1))) (differ.0.0, tt);
         results = st.gives (first_port results) ∙ append-nil _ ∙ sym (st.takes (first_port results)) ∙ w.results;
       }

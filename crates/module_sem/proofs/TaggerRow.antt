@@ -1,10 +1,10 @@
 -- A Tagger keeps tokens and slots fitting, and its tags different.
 use Rattle.std.proofs.Common.{◌≡◌, ◌≢◌, ℕ, zero, suc, ◌+◌, ◌^◌, ◌≤◌, refl, sym, subst, Bool, true, false, nat_le, if◌then◌else◌, List, [], ◌∷◌, ◌++◌, arith, add-zero}
 use Rattle.std.proofs.lemmas.Bool.{leb-true}
+use Rattle.std.specs.List.{AllByRecursion}
 use Rattle.port_types.specs.Tag.{tag_width, tag_width_from}
 use Rattle.graph_core.specs.declared.kind.Kind.TheVariants.{Tagger}
 use Rattle.graph_core.specs.Kind.{Shape, ins, outs}
-use Rattle.module_sem.specs.Each.{Each}
 use Rattle.module_sem.specs.PortTokens.{Token, one}
 use Rattle.module_sem.specs.State.{Slot, SlotFits, HasNoTag, TagsDiffer}
 use Rattle.module_sem.specs.Firing.{waiting, finished, FiresTagger}
@@ -45,10 +45,10 @@ newest_differs tag [] none h = (tt, tt)
 newest_differs tag (slot ∷ slots) none h = (newest_no_tag slot.tag tag slots (λ e. none.0 (sym e)) h.0, newest_differs tag slots none.1 h.1)
 
 pub tagger_fits : (shape : Shape) (tags : ℕ) → tags ≤ 256 → (choice : ℕ) (old : List Slot) (taken given : List (List Token)) (new : List Slot) →
-    FiresTagger tags choice old taken given new → SideFits (ins (Tagger shape tags)) taken → Each (SlotFits (Tagger shape tags)) old → TagsDiffer old →
+    FiresTagger tags choice old taken given new → SideFits (ins (Tagger shape tags)) taken → AllByRecursion (SlotFits (Tagger shape tags)) old → TagsDiffer old →
     Kept (Tagger shape tags) given new
 tagger_fits shape tags few zero old taken given new (tag, v, eo, et, eg) takes slots differ =
-    let held : Each (SlotFits (Tagger shape tags)) (finished tag v ∷ new) = subst (Each (SlotFits (Tagger shape tags))) eo slots in
+    let held : AllByRecursion (SlotFits (Tagger shape tags)) (finished tag v ∷ new) = subst (AllByRecursion (SlotFits (Tagger shape tags))) eo slots in
     let apart : TagsDiffer (finished tag v ∷ new) = subst TagsDiffer eo differ in
     record {
       side = subst (SideFits (outs (Tagger shape tags))) (sym eg) (tt, ((held.0.1, tt), tt));
@@ -57,11 +57,11 @@ tagger_fits shape tags few zero old taken given new (tag, v, eo, et, eg) takes s
     }
 tagger_fits shape tags few (suc zero) old taken given new (tag, v, older, newer, eo, en, et, eg) takes slots differ =
     let side : SideFits (ins (Tagger shape tags)) ([] ∷ one (tag ∷ v) ∷ []) = subst (SideFits (ins (Tagger shape tags))) et takes in
-    let held : Each (SlotFits (Tagger shape tags)) (older ++ waiting tag ∷ newer) = subst (Each (SlotFits (Tagger shape tags))) eo slots in
-    let right : Each (SlotFits (Tagger shape tags)) (waiting tag ∷ newer) = each_right (SlotFits (Tagger shape tags)) older _ held in
+    let held : AllByRecursion (SlotFits (Tagger shape tags)) (older ++ waiting tag ∷ newer) = subst (AllByRecursion (SlotFits (Tagger shape tags))) eo slots in
+    let right : AllByRecursion (SlotFits (Tagger shape tags)) (waiting tag ∷ newer) = each_right (SlotFits (Tagger shape tags)) older _ held in
     record {
       side = subst (SideFits (outs (Tagger shape tags))) (sym eg) tt;
-      slots = subst (Each (SlotFits (Tagger shape tags))) (sym en)
+      slots = subst (AllByRecursion (SlotFits (Tagger shape tags))) (sym en)
           (each_append (SlotFits (Tagger shape tags)) older _ (each_left (SlotFits (Tagger shape tags)) older _ held) ((right.0.0, side.1.0.0.1), right.1));
       tags = subst TagsDiffer (sym en) (result_differs tag v older newer (subst TagsDiffer eo differ));
     }
@@ -70,6 +70,6 @@ tagger_fits shape tags few (suc (suc tag)) old taken given new (v, below, none, 
     let room : tags ≤ 2 ^ tag_width tags = tag_has_room tags few in
     record {
       side = subst (SideFits (outs (Tagger shape tags))) (sym eg) (((omega (arith, below, room), side.0.0), tt), tt);
-      slots = subst (Each (SlotFits (Tagger shape tags))) (sym en) (each_append (SlotFits (Tagger shape tags)) old _ slots ((below, tt), tt));
+      slots = subst (AllByRecursion (SlotFits (Tagger shape tags))) (sym en) (each_append (SlotFits (Tagger shape tags)) old _ slots ((below, tt), tt));
       tags = subst TagsDiffer (sym en) (newest_differs tag old none differ);
     }

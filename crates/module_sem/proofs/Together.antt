@@ -1,5 +1,6 @@
 -- Circuits side by side, and linked circuits, are typed.
 use Rattle.std.proofs.Common.{◌≡◌, ◌≢◌, ℕ, ◌+◌, ◌<◌, ◌⊎◌, inl, inr, refl, sym, ap, subst, ◌∙◌, bytes_eq, if◌then◌else◌, [], ◌∷◌, length, Option, Some, None, arith}
+use Rattle.std.proofs.lemmas.Option.{same_Some}
 use Rattle.graph_core.specs.declared.kind.Kind.{Kind}
 use Rattle.graph_core.specs.declared.kind.Kind.TheVariants.{Entry, Exit, Buffer}
 use Rattle.graph_core.specs.Name.{Name, Port, port_get}
@@ -7,7 +8,6 @@ use Rattle.graph_core.specs.Kind.{Shape, ins, outs, KindOk}
 use Rattle.module_sem.specs.Circuit.{Circuit, Typed, Wire}
 use Rattle.module_sem.specs.Plug.{Link, link, redirect, beside, or_else, Apart}
 use Rattle.module_sem.proofs.Names.{name_cases, other_test, same_test}
-use Rattle.module_sem.proofs.Steps.{some_inj}
 use Rattle.module_sem.proofs.Linking.{CanLink, kind_other, kind_exit, kind_entry}
 use Rattle.module_sem.proofs.Beside.{apart_none, apart_sym, kind_left, kind_right, unfed, none_some}
 
@@ -73,8 +73,8 @@ redirect_some l (Some r) q e = (
   r,
   refl,
   elim (name_cases r.node l.entry) [
-    | inl is ↦ inl (is.is, some_inj _ q (sym (ap (λ b. Some (if b then record { node = l.exit; port = r.port } else r)) is.test) ∙ e))
-    | inr ne ↦ inr (ne.is_not, some_inj _ q (sym (ap (λ b. Some (if b then record { node = l.exit; port = r.port } else r)) ne.test) ∙ e))
+    | inl is ↦ inl (is.is, same_Some _ q (sym (ap (λ b. Some (if b then record { node = l.exit; port = r.port } else r)) is.test) ∙ e))
+    | inr ne ↦ inr (ne.is_not, same_Some _ q (sym (ap (λ b. Some (if b then record { node = l.exit; port = r.port } else r)) ne.test) ∙ e))
   ],
 )
 
@@ -89,7 +89,7 @@ module _ (l : Link) (c : Circuit) (a : Shape) (can : CanLink l c a) where
       elim (name_cases n l.entry) [
         | inl is ↦ absurd (none_some ((link l c).kind_at n) k (ap (link l c).kind_at is.is ∙ kind_entry l c) e)
         | inr ne ↦ elim (name_cases n l.exit) [
-          | inl is ↦ was_exit is.is (some_inj k (Buffer a) (sym e ∙ ap (link l c).kind_at is.is ∙ kind_exit l c a can))
+          | inl is ↦ was_exit is.is (same_Some k (Buffer a) (sym e ∙ ap (link l c).kind_at is.is ∙ kind_exit l c a can))
           | inr nx ↦ was_same nx.is_not ne.is_not (sym (kind_other l c n nx.is_not ne.is_not) ∙ e)
         ]
       ]
@@ -98,14 +98,14 @@ module _ (l : Link) (c : Circuit) (a : Shape) (can : CanLink l c a) where
   target_in : (n : Name) (k : Kind) → n ≢ l.entry → c.kind_at n ≡ Some k → (m : Kind) × ((link l c).kind_at n ≡ Some m) × (ins m ≡ ins k)
   target_in n k ne e =
       elim (name_cases n l.exit) [
-        | inl is ↦ (Buffer a, ap (link l c).kind_at is.is ∙ kind_exit l c a can, ap ins (some_inj (Exit a) k (sym can.exit ∙ ap c.kind_at (sym is.is) ∙ e)))
+        | inl is ↦ (Buffer a, ap (link l c).kind_at is.is ∙ kind_exit l c a can, ap ins (same_Some (Exit a) k (sym can.exit ∙ ap c.kind_at (sym is.is) ∙ e)))
         | inr nx ↦ (k, kind_other l c n nx.is_not ne ∙ e, refl)
       ]
 
   fed_no_entry : Typed c → (p q : Port) → c.feeder p ≡ Some q → p.node ≢ l.entry
   fed_no_entry ty p q f is =
       let w = ty.wires p q f in
-      let same : w.target ≡ Entry a = some_inj w.target (Entry a) (sym w.is_target ∙ ap c.kind_at is ∙ can.entry) in
+      let same : w.target ≡ Entry a = same_Some w.target (Entry a) (sym w.is_target ∙ ap c.kind_at is ∙ can.entry) in
       let z : None ≡ Some w.shape = ap (λ k. port_get (ins k) p.port) (sym same) ∙ w.enters in
       cc
 
@@ -116,7 +116,7 @@ module _ (l : Link) (c : Circuit) (a : Shape) (can : CanLink l c a) where
       let (m, em, im) = target_in p.node w.target (fed_no_entry ty p r f) w.is_target in
       elim which [
         | inl here ↦
-            let source : w.source ≡ Entry a = some_inj w.source (Entry a) (sym w.is_source ∙ ap c.kind_at here.0 ∙ can.entry) in
+            let source : w.source ≡ Entry a = same_Some w.source (Entry a) (sym w.is_source ∙ ap c.kind_at here.0 ∙ can.entry) in
             record {
               target = m;
               source = Buffer a;

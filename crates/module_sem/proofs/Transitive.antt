@@ -2,16 +2,16 @@
 use Rattle.std.proofs.Common.{◌≡◌, ◌≢◌, ℕ, ◌+◌, ◌<◌, ◌≤◌, ◌⊎◌, inl, inr, refl, sym, ap, subst, ◌∙◌, true, false, Bool, bytes_eq, List, [], ◌∷◌, ◌++◌, length, drop, replicate, Option, Some, None, arith, length-append}
 use Rattle.std.proofs.Math.Seq.{drop-append_seam}
 use Rattle.std.proofs.lemmas.List.{length-drop, length-replicate}
+use Rattle.std.specs.List.{AllByRecursion}
+use Rattle.std.proofs.lemmas.Option.{same_Some}
 use Rattle.graph_core.specs.declared.kind.Kind.{Kind}
 use Rattle.graph_core.specs.declared.kind.Kind.TheVariants.{Entry, Exit}
 use Rattle.graph_core.specs.Name.{Name, Port}
-use Rattle.module_sem.specs.Each.{Each}
 use Rattle.module_sem.specs.Circuit.{Circuit, Typed}
 use Rattle.module_sem.specs.Run.{Move, Shows}
 use Rattle.module_sem.specs.Plug.{Link, plug, Apart, Joins, UsesNoneTwice, CanPlug}
 use Rattle.module_sem.specs.Refines.{SamePorts, Refines}
 use Rattle.module_sem.proofs.Names.{name_cases, other_test, same_test}
-use Rattle.module_sem.proofs.Steps.{some_inj}
 use Rattle.module_sem.proofs.Renaming.{Swap, port_to, fed_to, renamed, moves_to, link_to, links_to, shows_to, plug_to, renamed_back, moves_back, links_back, renamed_fixed, to_inj}
 
 pub port_back : (x : Swap) (p : Port) → port_to x (port_to x p) ≡ p
@@ -21,7 +21,7 @@ port_back x p = λ i. record { node = x.back p.node i; port = p.port }
 fed_source_at : (x : Swap) (c : Circuit) (p q : Port) (o : Option Port) → c.feeder (port_to x p) ≡ o → fed_to x o ≡ Some q → c.feeder (port_to x p) ≡ Some (port_to x q)
 fed_source_at x c p q None f e = let z : None ≡ Some q = e in cc
 fed_source_at x c p q (Some r) f e =
-    f ∙ ap Some (sym (port_back x r) ∙ ap (port_to x) (some_inj (port_to x r) q e))
+    f ∙ ap Some (sym (port_back x r) ∙ ap (port_to x) (same_Some (port_to x r) q e))
 
 pub fed_source : (x : Swap) (c : Circuit) (p q : Port) → (renamed x c).feeder p ≡ Some q → c.feeder (port_to x p) ≡ Some (port_to x q)
 fed_source x c p q e = fed_source_at x c p q (c.feeder (port_to x p)) refl e
@@ -57,12 +57,12 @@ joins_in : (x : Swap) (c g : Circuit) (l : Link) → ((n : Name) (k : Kind) → 
 joins_in x c g l fixed j =
     record { shape = j.shape; exit = ap g.kind_at (fixed l.exit (Exit j.shape) j.exit) ∙ j.exit; entry = ap c.kind_at (x.back l.entry) ∙ j.entry }
 
-joins_all : (x : Swap) (c g : Circuit) → ((n : Name) (k : Kind) → g.kind_at n ≡ Some k → x.to n ≡ n) → (ls : List Link) → Each (λ l. Joins l c g ⊎ Joins l g c) ls → Each (λ l. Joins l (renamed x c) g ⊎ Joins l g (renamed x c)) (links_to x ls)
+joins_all : (x : Swap) (c g : Circuit) → ((n : Name) (k : Kind) → g.kind_at n ≡ Some k → x.to n ≡ n) → (ls : List Link) → AllByRecursion (λ l. Joins l c g ⊎ Joins l g c) ls → AllByRecursion (λ l. Joins l (renamed x c) g ⊎ Joins l g (renamed x c)) (links_to x ls)
 joins_all x c g fixed [] h = tt
 joins_all x c g fixed (l ∷ ls) h =
     (elim h.0 [ inl j ↦ inl (joins_out x c g l fixed j) | inr j ↦ inr (joins_in x c g l fixed j) ], joins_all x c g fixed ls h.1)
 
-apart_links : (x : Swap) (l : Link) (ls : List Link) → Each (λ m. (m.exit ≢ l.exit) × (m.entry ≢ l.entry)) ls → Each (λ m. (m.exit ≢ x.to l.exit) × (m.entry ≢ x.to l.entry)) (links_to x ls)
+apart_links : (x : Swap) (l : Link) (ls : List Link) → AllByRecursion (λ m. (m.exit ≢ l.exit) × (m.entry ≢ l.entry)) ls → AllByRecursion (λ m. (m.exit ≢ x.to l.exit) × (m.entry ≢ x.to l.entry)) (links_to x ls)
 apart_links x l [] h = tt
 apart_links x l (m ∷ ms) h =
     (((λ e. h.0.0 (to_inj x m.exit l.exit e)), (λ e. h.0.1 (to_inj x m.entry l.entry e))), apart_links x l ms h.1)
@@ -192,7 +192,7 @@ module _ (c : Circuit) (size : ℕ) (short : (n : Name) (k : Kind) → c.kind_at
       let same : length (zeros ++ away n) ≡ length n = ap length long in
       omega (arith, same, zeros_long (away n))
 
-pub joins_same : (c h g : Circuit) → SamePorts h g → (ls : List Link) → Each (λ l. Joins l c h ⊎ Joins l h c) ls → Each (λ l. Joins l c g ⊎ Joins l g c) ls
+pub joins_same : (c h g : Circuit) → SamePorts h g → (ls : List Link) → AllByRecursion (λ l. Joins l c h ⊎ Joins l h c) ls → AllByRecursion (λ l. Joins l c g ⊎ Joins l g c) ls
 joins_same c h g same [] j = tt
 joins_same c h g same (l ∷ ls) j = (
   elim j.0 [

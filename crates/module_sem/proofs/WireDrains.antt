@@ -1,11 +1,11 @@
 -- A wire from an Entry to an Exit drains tokens that fit to themselves, and to nothing else.
 use Rattle.std.proofs.Common.{◌≡◌, inl, inr, refl, sym, ap, subst, ◌∙◌, if◌then◌else◌, List, [], ◌∷◌, ◌++◌, Some, None}
+use Rattle.std.specs.List.{AllByRecursion}
 use Rattle.port_types.specs.Token.{Fits}
 use Rattle.graph_core.specs.declared.kind.Kind.{Kind}
 use Rattle.graph_core.specs.declared.kind.Kind.TheVariants.{Entry, Exit}
 use Rattle.graph_core.specs.Name.{Name, Port}
 use Rattle.graph_core.specs.Kind.{Shape}
-use Rattle.module_sem.specs.Each.{Each}
 use Rattle.module_sem.specs.PortTokens.{Token}
 use Rattle.module_sem.specs.Circuit.{circuit_of, kind_of}
 use Rattle.module_sem.specs.State.{State, start, initial}
@@ -31,16 +31,16 @@ no_init shape n k (first is e) h = subst IsInit e h
 no_init shape n k (last is e) h = subst IsInit e h
 
 module _ (shape : Shape) (ins outs : Name → List Token) where
-  entry_fits : Each (Fits shape) (ins entry_name) → (n : Name) (a : Shape) → Node shape n (Entry a) → Each (Fits a) (ins n)
+  entry_fits : AllByRecursion (Fits shape) (ins entry_name) → (n : Name) (a : Shape) → Node shape n (Entry a) → AllByRecursion (Fits a) (ins n)
   unfolding shape_of
   entry_fits fit n a (first is e) =
-      subst (λ x. Each (Fits x) (ins n)) (sym (ap (shape_of shape) e)) (subst (λ x. Each (Fits shape) (ins x)) (sym is) fit)
+      subst (λ x. AllByRecursion (Fits x) (ins n)) (sym (ap (shape_of shape) e)) (subst (λ x. AllByRecursion (Fits shape) (ins x)) (sym is) fit)
   entry_fits fit n a (last is e) = let z : Entry a ≡ Exit shape = e in cc
 
-  exit_fits : Each (Fits shape) (outs exit_name) → (n : Name) (a : Shape) → Node shape n (Exit a) → Each (Fits a) (outs n)
+  exit_fits : AllByRecursion (Fits shape) (outs exit_name) → (n : Name) (a : Shape) → Node shape n (Exit a) → AllByRecursion (Fits a) (outs n)
   unfolding shape_of
   exit_fits fit n a (last is e) =
-      subst (λ x. Each (Fits x) (outs n)) (sym (ap (shape_of shape) e)) (subst (λ x. Each (Fits shape) (outs x)) (sym is) fit)
+      subst (λ x. AllByRecursion (Fits x) (outs n)) (sym (ap (shape_of shape) e)) (subst (λ x. AllByRecursion (Fits shape) (outs x)) (sym is) fit)
   exit_fits fit n a (first is e) = let z : Exit a ≡ Entry shape = e in cc
 
   at_exit : outs exit_name ≡ ins entry_name → (n : Name) (a : Shape) → Node shape n (Exit a) → (loaded (wire shape) ins).wires (first_port n) ≡ outs n
@@ -57,11 +57,11 @@ module _ (shape : Shape) (ins outs : Name → List Token) where
             ∙ ap (λ b. initial (kind_of (wire shape) (if b then Some (first_port entry_name) else None))) (sym other.test)
       ]
 
-  drains : Each (Fits shape) (ins entry_name) → outs exit_name ≡ ins entry_name → Drains (wire shape) ins outs
+  drains : AllByRecursion (Fits shape) (ins entry_name) → outs exit_name ≡ ins entry_name → Drains (wire shape) ins outs
   drains fit same =
       record {
         fit_in = λ n a e. entry_fits fit n a (node shape n (Entry a) e);
-        fit_out = λ n a e. exit_fits (subst (Each (Fits shape)) (sym same) fit) n a (node shape n (Exit a) e);
+        fit_out = λ n a e. exit_fits (subst (AllByRecursion (Fits shape)) (sym same) fit) n a (node shape n (Exit a) e);
         rest = start (wire shape);
         is_rest = rests_without_init (wire shape) (λ n k e. no_init shape n k (node shape n k e));
         firings = [];
@@ -80,9 +80,9 @@ module _ (shape : Shape) (ins outs : Name → List Token) where
   to_itself d =
       sym (d.exits exit_name shape refl) ∙ ap (λ (s : State). s.wires (first_port exit_name)) (sym (nothing_fires (loaded (wire shape) ins) d.end d.firings d.leads))
 
-pub wire_drains : (shape : Shape) (ins outs : Name → List Token) → Each (Fits shape) (ins entry_name) → outs exit_name ≡ ins entry_name → Drains (circuit_of (lone_wire shape)) ins outs
+pub wire_drains : (shape : Shape) (ins outs : Name → List Token) → AllByRecursion (Fits shape) (ins entry_name) → outs exit_name ≡ ins entry_name → Drains (circuit_of (lone_wire shape)) ins outs
 wire_drains shape ins outs fit same = subst (λ c. Drains c ins outs) (sym (is_wire shape)) (drains shape ins outs fit same)
 
-pub wire_drains_only : (shape : Shape) (ins outs : Name → List Token) → Drains (circuit_of (lone_wire shape)) ins outs → Each (Fits shape) (ins entry_name) × (outs exit_name ≡ ins entry_name)
+pub wire_drains_only : (shape : Shape) (ins outs : Name → List Token) → Drains (circuit_of (lone_wire shape)) ins outs → AllByRecursion (Fits shape) (ins entry_name) × (outs exit_name ≡ ins entry_name)
 wire_drains_only shape ins outs h =
     let d : Drains (wire shape) ins outs = subst (λ c. Drains c ins outs) (is_wire shape) h in (d.fit_in entry_name shape refl, to_itself shape ins outs d)

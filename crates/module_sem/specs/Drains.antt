@@ -1,11 +1,11 @@
 -- Drains: a circuit takes all that is put in at its Entries, and leaves it at its Exits.
 use Rattle.std.specs.Prelude.{◌≡◌, ℕ, List, [], ◌++◌, Option, Some, None}
+use Rattle.std.specs.List.{AllByRecursion}
 use Rattle.port_types.specs.Token.{Fits}
 use Rattle.graph_core.specs.declared.kind.Kind.{Kind}
 use Rattle.graph_core.specs.declared.kind.Kind.TheVariants.{Entry, Exit, Init}
 use Rattle.graph_core.specs.Name.{Name, Port}
 use Rattle.graph_core.specs.Kind.{Shape}
-use Rattle.module_sem.specs.Each.{Each}
 use Rattle.module_sem.specs.PortTokens.{Token}
 use Rattle.module_sem.specs.Circuit.{Circuit}
 use Rattle.module_sem.specs.State.{State, start}
@@ -37,7 +37,7 @@ pub record Led (c : Circuit) (n : Name) : Type 0 where
 -- from the start the led nodes alone have fired, until none of them can
 pub record IsRest (c : Circuit) (s : State) : Type 0 where
   pub firings : List Firing
-  pub led : Each (λ f. Led c f.node) firings
+  pub led : AllByRecursion (λ f. Led c f.node) firings
   pub leads : Firings c (start c) firings s
   pub ends : (n : Name) (choice : ℕ) (t : State) → Led c n → ¬ (Step c s n (Fire choice) t)
 
@@ -62,8 +62,8 @@ IsNoExit _ = Unit {0}
 
 -- some firings take all that is put in at the Entries, leave exactly outs at the Exits, and all else at rest
 pub record Drains (c : Circuit) (ins outs : Name → List Token) : Type 0 where
-  pub fit_in : (n : Name) (a : Shape) → c.kind_at n ≡ Some (Entry a) → Each (Fits a) (ins n)
-  pub fit_out : (n : Name) (a : Shape) → c.kind_at n ≡ Some (Exit a) → Each (Fits a) (outs n)
+  pub fit_in : (n : Name) (a : Shape) → c.kind_at n ≡ Some (Entry a) → AllByRecursion (Fits a) (ins n)
+  pub fit_out : (n : Name) (a : Shape) → c.kind_at n ≡ Some (Exit a) → AllByRecursion (Fits a) (outs n)
   pub rest : State
   pub is_rest : IsRest c rest
   pub firings : List Firing

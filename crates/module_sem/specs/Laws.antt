@@ -1,5 +1,6 @@
--- The laws of circuits. Each is proved of a function of this crate.
+-- The laws of circuits. AllByRecursion is proved of a function of this crate.
 use Rattle.std.specs.Prelude.{◌≡◌, ◌↔◌, ℕ, drop, List, [], ◌∷◌, Some}
+use Rattle.std.specs.List.{AllByRecursion}
 use Rattle.port_types.specs.Shape.{IsShape}
 use Rattle.port_types.specs.Token.{Fits}
 use Rattle.graph_core.specs.declared.kind.Kind.{Kind}
@@ -7,7 +8,6 @@ use Rattle.graph_core.specs.declared.kind.Kind.TheVariants.{Buffer, Init, Tagger
 use Rattle.graph_core.specs.Name.{Name, Port}
 use Rattle.graph_core.specs.Kind.{Shape, field, KindOk}
 use Rattle.graph_core.specs.NamedGraph.{NamedGraph, IsTyped}
-use Rattle.module_sem.specs.Each.{Each}
 use Rattle.module_sem.specs.PortTokens.{Token, single, one}
 use Rattle.module_sem.specs.Circuit.{Circuit, Typed, circuit_of}
 use Rattle.module_sem.specs.State.{State, start, IsStateOf}
@@ -141,7 +141,7 @@ GraphDropDrains = (h g : NamedGraph) (b : Name) (ins outs : Name → List Token)
 -- a wire from an Entry to an Exit drains fitting tokens to themselves, and to nothing else
 abbrev pub WireDrains : Type 0
 WireDrains = (shape : Shape) (ins outs : Name → List Token) →
-    Drains (circuit_of (lone_wire shape)) ins outs ↔ (Each (Fits shape) (ins entry_name) × (outs exit_name ≡ ins entry_name))
+    Drains (circuit_of (lone_wire shape)) ins outs ↔ (AllByRecursion (Fits shape) (ins entry_name) × (outs exit_name ≡ ins entry_name))
 
 -- a Tagger with an Entry or an Exit at each port is typed
 abbrev pub TaggerIsTyped : Type 0
@@ -172,4 +172,4 @@ InitRests = (value mark : ℕ) → (rest : State) × IsRest (circuit_of (lone_in
 -- it drains bits to the value followed by them, and to nothing else
 abbrev pub InitDrains : Type 0
 InitDrains = (value mark : ℕ) (ins outs : Name → List Token) → KindOk (Init value mark) →
-    Drains (circuit_of (lone_init value mark)) ins outs ↔ (Each (Fits (field 1)) (ins bits) × (outs out ≡ single value ∷ ins bits))
+    Drains (circuit_of (lone_init value mark)) ins outs ↔ (AllByRecursion (Fits (field 1)) (ins bits) × (outs out ≡ single value ∷ ins bits))

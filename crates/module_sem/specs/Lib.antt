@@ -1,4 +1,3 @@
-pub mod Each
 pub mod PortTokens
 pub mod Circuit
 pub mod State

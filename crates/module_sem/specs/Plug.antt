@@ -1,10 +1,10 @@
 -- Two circuits joined at Entries and Exits.
 use Rattle.std.specs.Prelude.{◌≡◌, ◌≢◌, ◌⊎◌, List, [], ◌∷◌, Option, Some, None, if◌then◌else◌, bytes_eq}
+use Rattle.std.specs.List.{AllByRecursion}
 use Rattle.graph_core.specs.declared.kind.Kind.{Kind}
 use Rattle.graph_core.specs.declared.kind.Kind.TheVariants.{Entry, Exit, Buffer}
 use Rattle.graph_core.specs.Name.{Name, Port}
 use Rattle.graph_core.specs.Kind.{Shape}
-use Rattle.module_sem.specs.Each.{Each}
 use Rattle.module_sem.specs.Circuit.{Circuit}
 
 -- the first that there is
@@ -65,10 +65,10 @@ pub record Joins (l : Link) (c d : Circuit) : Type 0 where
 -- no Exit and no Entry is an end of two links
 abbrev pub UsesNoneTwice : List Link → Type 0
 UsesNoneTwice [] = Unit {0}
-UsesNoneTwice (l ∷ ls) = Each (λ m. (m.exit ≢ l.exit) × (m.entry ≢ l.entry)) ls × UsesNoneTwice ls
+UsesNoneTwice (l ∷ ls) = AllByRecursion (λ m. (m.exit ≢ l.exit) × (m.entry ≢ l.entry)) ls × UsesNoneTwice ls
 
 -- each link joins an Exit of the one to an Entry of the other
 pub record CanPlug (c : Circuit) (ls : List Link) (g : Circuit) : Type 0 where
   pub apart : Apart c g
-  pub joins : Each (λ l. Joins l c g ⊎ Joins l g c) ls
+  pub joins : AllByRecursion (λ l. Joins l c g ⊎ Joins l g c) ls
   pub once : UsesNoneTwice ls

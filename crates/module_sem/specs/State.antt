@@ -1,11 +1,11 @@
 -- States of a circuit: the tokens on its wires, and the slots of its nodes.
 use Rattle.std.specs.Prelude.{◌≡◌, ◌≢◌, ℕ, ◌<◌, List, [], ◌∷◌, Option, Some, IfSome}
+use Rattle.std.specs.List.{AllByRecursion}
 use Rattle.port_types.specs.Token.{Fits}
 use Rattle.graph_core.specs.declared.kind.Kind.{Kind}
 use Rattle.graph_core.specs.declared.kind.Kind.TheVariants.{Init, Tagger}
 use Rattle.graph_core.specs.Name.{Name, Port, port_get}
 use Rattle.graph_core.specs.Kind.{Shape, ins}
-use Rattle.module_sem.specs.Each.{Each}
 use Rattle.module_sem.specs.PortTokens.{Token, single, one}
 use Rattle.module_sem.specs.Circuit.{Circuit, kind_of}
 
@@ -35,7 +35,7 @@ SlotFits _ slot = ⊥
 
 -- none of the slots has this tag
 abbrev pub HasNoTag : ℕ → List Slot → Type 0
-HasNoTag tag slots = Each (λ slot. slot.tag ≢ tag) slots
+HasNoTag tag slots = AllByRecursion (λ slot. slot.tag ≢ tag) slots
 
 -- no two slots have one tag
 abbrev pub TagsDiffer : List Slot → Type 0
@@ -45,6 +45,6 @@ TagsDiffer (slot ∷ slots) = HasNoTag slot.tag slots × TagsDiffer slots
 -- the tokens of each wire fit its shape, what stands in the slots fits too, and the tags of a node's slots differ
 pub record IsStateOf (c : Circuit) (s : State) : Type 0 where
   pub wires : (p : Port) (k : Kind) (a : Shape) → c.kind_at p.node ≡ Some k →
-      port_get (ins k) p.port ≡ Some a → Each (Fits a) (s.wires p)
-  pub slots : (n : Name) (k : Kind) → c.kind_at n ≡ Some k → Each (SlotFits k) (s.slots n)
+      port_get (ins k) p.port ≡ Some a → AllByRecursion (Fits a) (s.wires p)
+  pub slots : (n : Name) (k : Kind) → c.kind_at n ≡ Some k → AllByRecursion (SlotFits k) (s.slots n)
   pub tags : (n : Name) (k : Kind) → c.kind_at n ≡ Some k → TagsDiffer (s.slots n)
