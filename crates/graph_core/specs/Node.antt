@@ -3,18 +3,29 @@ use Rattle.std.specs.Prelude.{◌≢◌, ℕ, Bool, IsTrue, List, [], ◌∷◌,
 use Rattle.std.specs.List.{list_any}
 use Rattle.std.specs.FinMap.{FinMap, from_entries}
 use Rattle.graph_core.specs.declared.kind.Kind.{Kind}
-use Rattle.graph_core.specs.declared.kind.Kind.TheVariants.{Operator, Constant, Init, Tagger}
+use Rattle.graph_core.specs.declared.kind.Kind.TheVariants.{Entry, Exit, Buffer, Fork, Join, Split, Operator, Constant, Source0, Sink0, Mux, Branch, Merge, CtrlMerge, Init, Tagger}
 use Rattle.graph_core.specs.declared.node.Node.{Node}
 use Rattle.graph_core.specs.Name.{name_cmp, IsName}
 use Rattle.graph_core.specs.Kind.{KindOk}
 
 -- the keys of the attributes that the kind's row of the table names
 abbrev pub row_keys : Kind → List (List ℕ)
+row_keys (Entry shape) = []
+row_keys (Exit shape) = []
+row_keys (Buffer shape) = []
+row_keys (Fork shape count) = []
+row_keys (Join shapes) = []
+row_keys (Split shapes) = []
 row_keys (Operator op widths width) = codes "op" ∷ []
 row_keys (Constant shape width value) = codes "value" ∷ []
+row_keys (Source0 shape) = []
+row_keys (Sink0 shape) = []
+row_keys (Mux shape) = []
+row_keys (Branch shape) = []
+row_keys (Merge shape count) = []
+row_keys (CtrlMerge shape count width) = []
 row_keys (Init value mark) = codes "value" ∷ codes "ooo" ∷ []
 row_keys (Tagger shape tags) = codes "tags" ∷ []
-row_keys _ = []
 
 -- the keys of all attributes that the kind owns
 abbrev pub owned_keys : Kind → List (List ℕ)
