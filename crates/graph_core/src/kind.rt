@@ -1,10 +1,10 @@
 ghost use Rattle.std.specs.Prelude.{◌≡◌, ◌↔◌, ◌≤◌, ◌^◌, IsTrue, All, length};
 ghost use Rattle.std.specs.List.{concat};
 ghost use Rattle.port_types.specs.Shape.{IsShape};
-ghost use Rattle.graph_core.specs.Kind.{ins, outs, KindOk, AreParts, IsCount};
+ghost use Rattle.graph_core.specs.Kind.{ins, outs, ports, KindOk, AreParts, IsCount};
 
 use op_table::{Op, typed_op};
-use port_types::{Items, Shape, is_shape};
+use port_types::{Items, Shape, Side, is_shape};
 
 /// The greatest number of ports of a side.
 const MAX_PORTS: u8 = 64;
@@ -170,5 +170,16 @@ pub fn outputs(kind: &Kind) -> u8
         Kind::Branch(_) | Kind::CtrlMerge(..) | Kind::Tagger(..) => 2,
         Kind::Fork(_, count) => *count,
         Kind::Split(shapes) => shapes.as_slice().len() as u8,
+    }
+}
+
+/// How many ports a node of this kind has on a side.
+pub fn port_count(kind: &Kind, side: Side) -> u8
+    requires { KindOk kind.now }
+    ensures { result ≡ length (ports kind.now side) }
+{
+    match side {
+        Side::Ins => inputs(kind),
+        Side::Outs => outputs(kind),
     }
 }

@@ -1,6 +1,6 @@
 //! Graphs of components: nodes with kinds and names, wires from outputs to inputs.
 //!
-//! - `Kind`: the components, with `kind_ok`, `inputs`, `outputs` and `port_shape`, which read the table of their ports, and `owns`, which tells the attributes of each.
+//! - `Kind`: the components, with `kind_ok`, `inputs`, `outputs`, `port_count` and `port_shape`, which read the table of their ports, and `owns`, which tells the attributes of each.
 //! - `Node`: a name, a kind, and the attributes that are kept as texts.
 //! - `Graph`: nodes by index and wires between ports. Contracts see it by its slots, and by names through
 //!   `named_graph` in `specs/`: one map from names to nodes, one from input ports to the outputs that feed them.
@@ -30,7 +30,7 @@ mod tests;
 mod wires;
 
 pub use graph::{AddNode, AddWire, Graph, PortOpen, check_typed};
-pub use kind::{Kind, inputs, kind_ok, outputs};
+pub use kind::{Kind, inputs, kind_ok, outputs, port_count};
 pub use laws::ports_are_shapes;
 pub use name::is_name;
 pub use node::Node;
