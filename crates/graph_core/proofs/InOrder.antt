@@ -14,44 +14,17 @@ use Rattle.graph_core.specs.Name.{Name, name_cmp}
 use Rattle.graph_core.specs.Node.{Body, body_of}
 use Rattle.graph_core.specs.GraphValue.{flat, named, named_nodes}
 use Rattle.graph_core.specs.Inside.{IsNamedAt, AreNamedApart}
+use Rattle.graph_core.proofs.ByKey.{Matches, Matches-insert, ref_cmp}
 use Rattle.graph_core.proofs.Orders.{name_total, name_same}
 use Rattle.graph_core.proofs.Known.{not_None}
-
--- the order of names behind references
-abbrev pub ref_cmp : Bor (List ℕ) → Bor (List ℕ) → Ordering
-ref_cmp a b = slice_cmp nat_cmp a.now b.now
 
 -- what stands behind an id
 abbrev pub named_at : List (Option Node) → NodeId → Option (Name × Body)
 named_at slots id = option_map named (flat (slice_get slots id.index))
 
--- the names and ids are those of the entries, one by one
-abbrev pub Matches : List (Option Node) → List (Bor (List ℕ) × NodeId) → List (Name × Body) → Type 0
-Matches slots [] [] = Unit {0}
-Matches slots [] (e ∷ es) = ⊥
-Matches slots (x ∷ xs) [] = ⊥
-Matches slots (x ∷ xs) (e ∷ es) = (x.0.now ≡ e.0) × (named_at slots x.1 ≡ Some e) × Matches slots xs es
-
-pub Matches-values : (slots : List (Option Node)) (xs : List (Bor (List ℕ) × NodeId)) (es : List (Name × Body)) → Matches slots xs es → map (named_at slots) (map (λ x. x.1) xs) ≡ map Some es
-Matches-values slots [] [] m = refl
-Matches-values slots [] (e ∷ es) m = absurd m
-Matches-values slots (x ∷ xs) [] m = absurd m
-Matches-values slots (x ∷ xs) (e ∷ es) m = λ i. m.1 i ∷ Matches-values slots xs es m.2 i
-
-pub Matches-insert : (slots : List (Option Node)) (name : Bor (List ℕ)) (id : NodeId) (body : Body) → named_at slots id ≡ Some (name.now, body) → (xs : List (Bor (List ℕ) × NodeId)) (es : List (Name × Body)) → Matches slots xs es → Matches slots (insert_entry ref_cmp xs name id) (put name_cmp name.now body es)
-Matches-insert slots name id body is [] [] m = (refl, is, tt)
-Matches-insert slots name id body is [] (e ∷ es) m = absurd m
-Matches-insert slots name id body is (x ∷ xs) [] m = absurd m
-Matches-insert slots name id body is (x ∷ xs) (e ∷ es) m =
-    subst (λ o. Matches slots (match_ordering o ((name, id) ∷ x ∷ xs) ((x.0, id) ∷ xs) (x ∷ insert_entry ref_cmp xs name id)) (put name_cmp name.now body (e ∷ es)))
-    (ap (name_cmp name.now) (sym m.0))
-    (at (Matches-insert slots name id body is xs es m.2) (name_cmp name.now e.0) refl)
-  where
-    at : Matches slots (insert_entry ref_cmp xs name id) (put name_cmp name.now body es) → (o : Ordering) → name_cmp name.now e.0 ≡ o
-        → Matches slots (match_ordering o ((name, id) ∷ x ∷ xs) ((x.0, id) ∷ xs) (x ∷ insert_entry ref_cmp xs name id)) (by_order o ((name.now, body) ∷ e ∷ es) ((e.0, body) ∷ es) (e ∷ put name_cmp name.now body es))
-    at more Less is_less = (refl, is, m)
-    at more Equal is_equal = (m.0, is ∙ ap (λ n. Some (n, body)) (name_same name.now e.0 is_equal), m.2)
-    at more Greater is_greater = (m.0, m.1, more)
+-- the ids of a tree are those of the nodes of the entries, under their names
+abbrev pub AreIds : List (Option Node) → List (Bor (List ℕ) × NodeId) → List (Name × Body) → Type 0
+AreIds slots = Matches (named_at slots) (λ (e : Name × Body). Some e)
 
 -- the entries of the slots so far, and the next
 
@@ -125,9 +98,9 @@ pub so_far-all : (slots : List (Option Node)) (i : ℕ) → length slots ≤ i �
 so_far-all slots i past = ap (λ s. map.entries (map.from_entries {R = name_cmp} (named_nodes s))) (take_all i slots past)
 
 -- one turn: a live node is put at its name
-pub Matches-node : (slots : List (Option Node)) (i : ℕ) (node : Node) (name : Bor (List ℕ)) (id : NodeId) (xs : List (Bor (List ℕ) × NodeId)) → AreNamedApart slots → flat (slice_get slots i) ≡ Some node → name.now ≡ node.name → id.index ≡ i
-    → Matches slots xs (so_far slots i) → Matches slots (insert_entry ref_cmp xs name id) (so_far slots (i + 1))
-Matches-node slots i node name id xs apart live is_name is_id m =
+pub AreIds-node : (slots : List (Option Node)) (i : ℕ) (node : Node) (name : Bor (List ℕ)) (id : NodeId) (xs : List (Bor (List ℕ) × NodeId)) → AreNamedApart slots → flat (slice_get slots i) ≡ Some node → name.now ≡ node.name → id.index ≡ i
+    → AreIds slots xs (so_far slots i) → AreIds slots (insert_entry ref_cmp xs name id) (so_far slots (i + 1))
+AreIds-node slots i node name id xs apart live is_name is_id m =
     let at_id : named_at slots id ≡ Some (name.now, body_of node) = ap (λ k. option_map named (flat (slice_get slots k))) is_id ∙ ap (option_map named) live ∙ ap (λ n. Some (n, body_of node)) (sym is_name) in
     let put_at : so_far slots (i + 1) ≡ put name_cmp name.now (body_of node) (so_far slots i) = so_far-node slots i node apart live ∙ ap (λ n. put name_cmp n (body_of node) (so_far slots i)) (sym is_name) in
-    subst (Matches slots (insert_entry ref_cmp xs name id)) (sym put_at) (Matches-insert slots name id (body_of node) at_id xs (so_far slots i) m)
+    subst (AreIds slots (insert_entry ref_cmp xs name id)) (sym put_at) (Matches-insert (named_at slots) (λ (e : Name × Body). Some e) name id (body_of node) at_id xs (so_far slots i) m)

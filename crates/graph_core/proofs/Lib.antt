@@ -20,7 +20,9 @@ pub mod Faults
 pub mod KeepsGraph
 pub mod Changes
 pub mod Opening
+pub mod ByKey
 pub mod InOrder
+pub mod KeptPairs
 pub mod ByNames
 pub mod ByNamesAfter
 pub mod TypedByNames

@@ -1,7 +1,7 @@
 -- Finite maps over an order in which only equal keys tie.
-use Rattle.std.proofs.Common.{◌≡◌, ◌≢◌, ◌⊎◌, inl, inr, Bool, true, false, cond, T, ◌&&◌, List, [], ◌∷◌, map, Option, Some, None, Ordering, Less, Equal, Greater, option_map, refl, sym, ap, ◌∙◌, true≢false}
+use Rattle.std.proofs.Common.{◌≡◌, ◌≢◌, ◌⊎◌, inl, inr, zero, suc, arith, Bool, true, false, cond, T, ◌&&◌, List, [], ◌∷◌, map, Option, Some, None, Ordering, Less, Equal, Greater, option_map, refl, sym, ap, ◌∙◌, true≢false}
 use Rattle.std.specs.Ordering.{eq_by_cmp, is_eq, is_lt, ordering_reverse}
-use Rattle.std.specs.List.{AllByRecursion}
+use Rattle.std.specs.List.{All, AllPairs, AllByRecursion}
 use Rattle.std.specs.Cmp.{IsTotalOrder, tied_itself, Equal-is}
 use Rattle.std.specs.FinMap.{FinMap, IsAntisymmetric, find, is_sorted, entries, entries_sorted, get, get-entries, insert, get-insert, remove, get-remove, retain_keys, get-retain_keys}
 use Rattle.std.specs.FinMap.Entries.{below_all}
@@ -71,6 +71,11 @@ below_apart Less h = refl
 below_apart Equal h = absurd h
 below_apart Greater h = absurd h
 
+above_ties : (r : Ordering) → T (is_lt r) → is_eq r ≡ false
+above_ties Less h = refl
+above_ties Equal h = absurd h
+above_ties Greater h = absurd h
+
 module _ {K X : Type 0} {R : K → K → Ordering} (total : IsTotalOrder R) (same : IsAntisymmetric R) where
   found_later : (e : K × X) (all es : List (K × X)) → T (below_all R e.0 es) → AllByRecursion (λ x. find R x.0 all ≡ Some x.1) es → AllByRecursion (λ x. find R x.0 (e ∷ all) ≡ Some x.1) es
   found_later e all [] below found = tt
@@ -87,6 +92,20 @@ module _ {K X : Type 0} {R : K → K → Ordering} (total : IsTotalOrder R) (sam
 
   pub each_found : (m : FinMap R X) → AllByRecursion (λ x. get m x.0 ≡ Some x.1) (entries m)
   each_found m = each_weaker (λ x. find R x.0 (entries m) ≡ Some x.1) (λ x. get m x.0 ≡ Some x.1) (λ x found. get-entries m x.0 ∙ found) (entries m) (found_in (entries m) (entries_sorted m))
+
+  above_apart : (x : K) (es : List (K × X)) → T (below_all R x es) → All (λ e. x ≢ e.0) es
+  above_apart x [] below k d within = absurd (omega arith)
+  above_apart x (e ∷ es) below zero d within = λ is.
+      let parts = and_parts (is_lt (R x e.0)) (below_all R x es) below in
+      true≢false (sym (same_key total same x e.0 is) ∙ above_ties (R x e.0) parts.0)
+  above_apart x (e ∷ es) below (suc k) d within = above_apart x es (and_parts (is_lt (R x e.0)) (below_all R x es) below).1 k d (omega arith)
+
+  -- no two entries of a map have one key
+  pub keys_apart : (es : List (K × X)) → T (is_sorted R es) → AllPairs (λ a b. a.0 ≢ b.0) es
+  keys_apart [] sorted i j d less within = absurd (omega arith)
+  keys_apart (e ∷ es) sorted i zero d less within = absurd (omega arith)
+  keys_apart (e ∷ es) sorted zero (suc j) d less within = above_apart e.0 es (and_parts (below_all R e.0 es) (is_sorted R es) sorted).0 j d (omega arith)
+  keys_apart (e ∷ es) sorted (suc i) (suc j) d less within = keys_apart es (and_parts (below_all R e.0 es) (is_sorted R es) sorted).1 i j d (omega arith) (omega arith)
 
 -- Entries with new keys and new values
 

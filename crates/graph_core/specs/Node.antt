@@ -1,5 +1,5 @@
 -- Nodes: what add_node asks of them, and a node without its name.
-use Rattle.std.specs.Prelude.{◌≢◌, ℕ, Bool, IsTrue, List, [], ◌∷◌, codes, bytes_eq, All, AllPairs}
+use Rattle.std.specs.Prelude.{◌≢◌, ℕ, Bool, not, IsTrue, List, [], ◌∷◌, codes, bytes_eq, filter, reverse, All, AllPairs}
 use Rattle.std.specs.List.{list_any}
 use Rattle.std.specs.FinMap.{FinMap, from_entries}
 use Rattle.graph_core.specs.declared.kind.Kind.{Kind}
@@ -37,6 +37,10 @@ is_owned kind key = list_any (bytes_eq key) (owned_keys kind)
 -- the key is that of an attribute which the kind owns, so it is no kept one
 abbrev pub IsOwned : Kind → List ℕ → Type 0
 IsOwned kind key = IsTrue (is_owned kind key)
+
+-- what a node of this kind keeps of these pairs: all but those that the kind owns, and of each key the last
+abbrev pub kept_of : Kind → List (List ℕ × List ℕ) → FinMap name_cmp (List ℕ)
+kept_of kind pairs = from_entries (filter (λ pair. not (is_owned kind pair.0)) (reverse pairs))
 
 -- different keys, of which the kind owns none
 pub record KeptOk (kind : Kind) (kept : List (List ℕ × List ℕ)) : Type 0 where
