@@ -6,7 +6,7 @@ use std::alloc::Global;
 use std::marker::Model;
 
 /// The greatest number of fields of a shape.
-const MAX_FIELDS: usize = 128;
+pub const MAX_FIELDS: usize = 128;
 
 /// The greatest width of a field, in bits.
 const MAX_WIDTH: u8 = 64;
