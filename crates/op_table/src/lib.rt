@@ -2,6 +2,7 @@
 //!
 //! - `Op`: the 28 operators.
 //! - `op_name`, `short_name`: the names in a graph and in a function; `op_of`, `op_of_short`: the operator of a name.
+//! - `MAX_WIDTH`: the greatest width of a field, in bits.
 //! - `typed_op`: whether an operator takes and gives these widths.
 //! - `apply`: what an operator computes, exactly the table of `specs/Value.antt`.
 //! - The other functions do nothing: their contracts are laws of the table, for callers whose proofs need them.
@@ -28,5 +29,5 @@ pub use laws::{
     widths_come_back,
 };
 pub use op::{Op, op_name, op_of, op_of_short, short_name};
-pub use typing::typed_op;
+pub use typing::{MAX_WIDTH, typed_op};
 pub use value::apply;

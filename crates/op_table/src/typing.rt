@@ -4,8 +4,8 @@ ghost use Rattle.op_table.specs.Table.{is_width, keeps_width, compares, chooses,
 
 use crate::op::Op;
 
-/// The greatest width, in bits.
-const MAX_WIDTH: u8 = 64;
+/// The greatest width of a field, in bits.
+pub const MAX_WIDTH: u8 = 64;
 
 /// Whether an operator takes inputs of these widths and gives an output of this width, in bits.
 /// Every width is from 1 to 64, except that `ret` also takes 0.

@@ -9,7 +9,8 @@ use Rattle.std.proofs.lemmas.List.{take_more, map-append, length-map, get_or-map
 use Rattle.std.proofs.lemmas.List.Sums.{AllPass-from_list_all, list_all-from_AllPass}
 use Rattle.port_types.specs.declared.port.PortFault.TheVariants.{TooWide}
 use Rattle.port_types.specs.Shape.{IsShape}
-use Rattle.port_types.specs.PortGrammar.{is_numeral, is_shape, shape_within, IsReading}
+use Rattle.port_types.specs.Numeral.{is_numeral}
+use Rattle.port_types.specs.PortGrammar.{is_shape, shape_within, IsReading}
 
 -- ---- the test of a shape
 

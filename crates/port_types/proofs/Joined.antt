@@ -5,7 +5,7 @@ use Rattle.std.specs.Fmt.{decimal}
 use Rattle.std.proofs.lemmas.List.{take_more, map-append, length-map}
 use Rattle.port_types.specs.declared.side.Side.{Side}
 use Rattle.port_types.specs.declared.port.Port.{Port}
-use Rattle.port_types.specs.PortText.{shape_text, port_text, port_texts_from, ports_text, marked_text, marked_texts_from, marked_ports_text}
+use Rattle.port_types.specs.PortText.{shape_text, marked_text, marked_texts_from, marked_ports_text}
 
 -- a last piece goes behind the byte, if it is not the first
 join_with_byte-push : (c : ℕ) (pieces : List (List ℕ)) (piece : List ℕ) → join_with_byte c (pieces ++ piece ∷ []) ≡ (join_with_byte c pieces ++ (if length pieces == 0 then [] else c ∷ [])) ++ piece
@@ -22,27 +22,7 @@ next_width widths i within =
     let count : length (map decimal (take i widths)) ≡ i = simp (length-map, length-take) (omega arith) in
     rw (take_more widths i 0 within, map-append) (rw count at (join_with_byte-push 46 (map decimal (take i widths)) (decimal (get_or widths i 0))))
 
--- one more shape gives one more text
-port_texts_from-push : (side : Side) (number : ℕ) (shapes : List (List ℕ)) (shape : List ℕ) → port_texts_from side number (shapes ++ shape ∷ []) ≡ port_texts_from side number shapes ++ port_text side (number + length shapes) shape ∷ []
-port_texts_from-push side number [] shape = rw add-zero refl
-port_texts_from-push side number (first ∷ shapes) shape =
-    let numbers : (number + 1) + length shapes ≡ number + length (first ∷ shapes) = omega arith in
-    ap (λ texts. port_text side number first ∷ texts) (rw (← numbers) (port_texts_from-push side (number + 1) shapes shape))
-
-length-port_texts_from : (side : Side) (number : ℕ) (shapes : List (List ℕ)) → length (port_texts_from side number shapes) ≡ length shapes
-length-port_texts_from side number [] = refl
-length-port_texts_from side number (shape ∷ shapes) = ap (λ n. suc n) (length-port_texts_from side (number + 1) shapes)
-
--- one more port
-pub next_port : (side : Side) (shapes : List (List ℕ)) (i : ℕ) (d : List ℕ) → i < length shapes → ports_text side (take (i + 1) shapes) ≡ (ports_text side (take i shapes) ++ (if i == 0 then [] else 32 ∷ [])) ++ port_text side (i + 1) (get_or shapes i d)
-next_port side shapes i d within =
-    let before = take i shapes in
-    let number : 1 + length before ≡ i + 1 = simp length-take (omega arith) in
-    let count : length (port_texts_from side 1 before) ≡ i = rw length-port_texts_from (omega arith) in
-    let texts = port_texts_from-push side 1 before (get_or shapes i d) in
-    rw (take_more shapes i d within, texts, number) (rw count at (join_with_byte-push 32 (port_texts_from side 1 before) (port_text side (i + 1) (get_or shapes i d))))
-
--- the same of ports with markers
+-- one more port gives one more text
 marked_texts_from-push : (side : Side) (number : ℕ) (ports : List Port) (port : Port) → marked_texts_from side number (ports ++ port ∷ []) ≡ marked_texts_from side number ports ++ marked_text side (number + length ports) port ∷ []
 marked_texts_from-push side number [] port = rw add-zero refl
 marked_texts_from-push side number (first ∷ ports) port =

@@ -1,6 +1,7 @@
 mod Fields
 mod Fronts
 mod Joined
+mod Numbers
 mod Numerals
 mod PortWords
 mod ReadBack

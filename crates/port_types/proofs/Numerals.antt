@@ -1,15 +1,17 @@
 -- Decimal numerals and their numbers.
-use Rattle.std.proofs.Common.{◌≡◌, ◌≢◌, ◌∙◌, ◌==◌, ◌&&◌, not, ℕ, ◌+◌, ◌-◌, ◌*◌, ◌≤◌, ◌<◌, ◌^◌, suc, zero, List, [], ◌∷◌, length, get_or, take, true, false, refl, ap, subst, arith, rules}
+use Rattle.std.proofs.Common.{◌≡◌, ◌≢◌, ◌∙◌, ◌==◌, ◌&&◌, not, ℕ, ◌+◌, ◌-◌, ◌*◌, ◌≤◌, ◌<◌, ◌^◌, suc, zero, List, [], ◌∷◌, length, get_or, take, Bool, true, false, cond, Option, Some, None, refl, sym, ap, subst, arith, rules}
 use Rattle.std.specs.Char.{is_ascii_digit, digit_value}
 use Rattle.std.specs.Int.{IsInRange}
 use Rattle.std.specs.List.{list_all}
 use Rattle.std.specs.Str.Parse.{digits_value}
 use Rattle.std.specs.Fmt.{decimal}
 use Rattle.std.proofs.lemmas.Bool.Decides.{nat_tests}
+use Rattle.std.proofs.lemmas.Option.{none-some}
 use Rattle.std.proofs.lemmas.Int.Digits.{digits_value_more}
 use Rattle.std.proofs.lemmas.Str.Parse.{IsDigitsTest, IsNumeralModel, numerals_by_value, digit_at, digits_value-take-le}
 use Rattle.std.proofs.lemmas.Fmt.{decimal_digit, digits_decimal, digits_value-decimal, decimal_nonempty, first_decimal, decimal-digits_value}
-use Rattle.port_types.specs.PortGrammar.{is_numeral}
+use Rattle.port_types.specs.Numeral.{is_numeral, in_word, numeral_value, NumeralsTellNumbers}
+use Rattle.port_types.proofs.Numbers.{word_is, word_some}
 
 abbrev pub AreDigits : List ℕ → Type 0
 AreDigits ds = list_all is_ascii_digit ds ≡ true
@@ -60,26 +62,20 @@ value_of n small = digits_value-decimal own n small
 pub written : (word : List ℕ) → is_numeral word ≡ true → digits_value 10 word < 2 ^ 64 → decimal (digits_value 10 word) ≡ word
 written word is small = decimal-digits_value own word (numeral_digits word is) (numeral_nonempty word is) (numeral_no_zero word is) small
 
--- the value of a decimal digit
-digit_is : (byte : ℕ) → IsInRange 48 57 byte → digit_value byte ≡ byte - 48
-digit_is byte is = grind (arith, nat_tests)
+-- ---- the number of a numeral
 
--- a digit of a numeral, and the number up to there
-pub record IsNextDigit (word : List ℕ) (i : ℕ) : Type 0 where
-  pub low : 48 ≤ get_or word i 0
-  pub high : get_or word i 0 ≤ 57
-  pub more : digits_value 10 (take (i + 1) word) ≡ digits_value 10 (take i word) * 10 + (get_or word i 0 - 48)
-  pub within : digits_value 10 (take (i + 1) word) ≤ digits_value 10 word
+value_by : (word : List ℕ) (n : ℕ) (is : Bool) → is_numeral word ≡ is → cond is (in_word (digits_value 10 word)) None ≡ Some n → (n < 2 ^ 64) × (word ≡ decimal n)
+value_by word n false not_numeral some = absurd (none-some n some)
+value_by word n true is some =
+    let value = word_is (digits_value 10 word) n some in
+    (value.1, sym (written word is (omega (arith, value))) ∙ ap decimal (sym value.0))
 
-pub next_digit : (word : List ℕ) (i : ℕ) → is_numeral word ≡ true → i < length word → IsNextDigit word i
-next_digit word i is below =
-    let range = digit_at word i (own.to word (numeral_digits word is)) below in
-    record {
-      low = range.0;
-      high = range.1;
-      more = subst (λ d. digits_value 10 (take (i + 1) word) ≡ digits_value 10 (take i word) * 10 + d) (digit_is (get_or word i 0) range) (digits_value_more 10 word i below);
-      within = digits_value-take-le 10 word (i + 1) (omega arith);
-    }
+value_written : (n : ℕ) → n < 2 ^ 64 → numeral_value (decimal n) ≡ Some n
+value_written n small =
+    ap (λ (b : Bool). cond b (in_word (digits_value 10 (decimal n))) None) (numeral_of n small) ∙ sym (word_some (digits_value 10 (decimal n)) n (sym (value_of n small)) small)
+
+pub numerals_tell_numbers : NumeralsTellNumbers
+numerals_tell_numbers text n = (value_by text n (is_numeral text) refl, λ told. subst (λ word. numeral_value word ≡ Some n) (sym told.1) (value_written n told.0))
 
 -- ---- numbers from 1 to 255
 

@@ -14,7 +14,8 @@ use Rattle.port_types.specs.declared.port.PortFault.{PortFault}
 use Rattle.port_types.specs.declared.port.PortFault.TheVariants.{MemoryPort, TooManyPorts, TooWide, BadPort}
 use Rattle.port_types.specs.Shape.{IsShape}
 use Rattle.port_types.specs.PortText.{port_name, shape_text, marker_text}
-use Rattle.port_types.specs.PortGrammar.{is_numeral, is_shape, fields_of, shape_reading, is_marker, is_marker_or_none, with_marker, behind_marker, behind_name, behind_found, text_behind, port_reading, word_reading}
+use Rattle.port_types.specs.Numeral.{is_numeral}
+use Rattle.port_types.specs.PortGrammar.{is_shape, fields_of, shape_reading, is_marker, is_marker_or_none, with_marker, behind_marker, behind_name, behind_found, text_behind, port_reading, word_reading}
 use Rattle.port_types.proofs.Numerals.{written}
 use Rattle.port_types.proofs.Fields.{shape_test, shape_from_test}
 

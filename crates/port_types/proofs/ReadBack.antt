@@ -16,9 +16,10 @@ use Rattle.port_types.specs.declared.side.Side.TheVariants.{Ins, Outs}
 use Rattle.port_types.specs.declared.port.Port.{Port}
 use Rattle.port_types.specs.declared.port.PortFault.TheVariants.{MemoryPort, TooManyPorts, TooWide, BadPort}
 use Rattle.port_types.specs.Shape.{IsShape}
-use Rattle.port_types.specs.PortText.{side_word, port_name, shape_text, marker_text, marked_text, marked_texts_from, marked_ports_text, port_text, port_texts_from}
-use Rattle.port_types.specs.PortGrammar.{is_blank, is_word, words_of, is_numeral, shape_within, shape_reading, is_marker_or_none, are_marked, with_marker, behind_marker, behind_name, behind_found, text_behind, port_reading, word_reading, words_reading, reading}
-use Rattle.port_types.specs.PortLaws.{ArePorts, ReadsBack, ReadsPorts, IsUnbounded, TooWideIsUnbounded, plain, PlainTexts}
+use Rattle.port_types.specs.PortText.{side_word, port_name, shape_text, marker_text, marked_text, marked_texts_from, marked_ports_text}
+use Rattle.port_types.specs.Numeral.{is_numeral}
+use Rattle.port_types.specs.PortGrammar.{is_blank, is_word, words_of, shape_within, shape_reading, is_marker_or_none, are_marked, with_marker, behind_marker, behind_name, behind_found, text_behind, port_reading, word_reading, words_reading, reading}
+use Rattle.port_types.specs.PortLaws.{ArePorts, ReadsBack, ReadsPorts, IsUnbounded, TooWideIsUnbounded}
 use Rattle.port_types.proofs.Numerals.{numeral_digits, numeral_of, value_of}
 use Rattle.port_types.proofs.Fields.{shape_test, no_shape}
 use Rattle.port_types.proofs.Fronts.{behind-append, behind-is}
@@ -277,14 +278,3 @@ too_wide_is_unbounded side number word = (to, from)
         ∙ port_word_read side number is.marker (join_with_byte 46 is.fields) is.marked
         ∙ ap (with_marker is.marker) (shape_of_fields is.fields is.some is.numerals)
         ∙ ap (λ b. with_marker is.marker (cond b (Ok (map (digits_value 10) is.fields)) (Err TooWide))) (no_shape (map (digits_value 10) is.fields) is.past)
-
--- ---- ports without markers
-
-plain_texts_from : (side : Side) (number : ℕ) (shapes : List (List ℕ)) → marked_texts_from side number (map plain shapes) ≡ port_texts_from side number shapes
-plain_texts_from side number [] = refl
-plain_texts_from side number (shape ∷ shapes) =
-    let none : port_name side number ++ [] ++ codes ":" ++ shape_text shape ≡ port_text side number shape = ap (λ name. name ++ codes ":" ++ shape_text shape) (append-nil (port_name side number)) in
-    λ i. none i ∷ plain_texts_from side (number + 1) shapes i
-
-pub plain_texts : PlainTexts
-plain_texts side shapes = ap (join_with_byte 32) (plain_texts_from side 1 shapes)

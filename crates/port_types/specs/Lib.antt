@@ -1,5 +1,6 @@
 pub mod Shape
 pub mod Token
+pub mod Numeral
 pub mod PortText
 pub mod PortGrammar
 pub mod Tag

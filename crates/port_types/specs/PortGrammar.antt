@@ -1,12 +1,12 @@
 -- Reading the ports of a side: the words of a text, what each word says, and the first that says no port.
 use Rattle.std.specs.Prelude.{ℕ, ◌+◌, ◌≡◌, ◌≢◌, Bool, true, false, not, ◌==◌, ◌&&◌, ◌||◌, nat_le, nat_lt, List, [], ◌∷◌, length, map, filter, take, drop, Option, Some, None, Result, Ok, Err, bytes_eq, if◌then◌else◌}
-use Rattle.std.specs.Char.{is_ascii_digit}
 use Rattle.std.specs.List.{list_all, list_any, slice_split}
 use Rattle.std.specs.Str.Parse.{digits_value}
 use Rattle.port_types.specs.declared.side.Side.{Side}
 use Rattle.port_types.specs.declared.port.Port.{Port}
 use Rattle.port_types.specs.declared.port.PortFault.{PortFault}
 use Rattle.port_types.specs.declared.port.PortFault.TheVariants.{MemoryPort, TooManyPorts, TooWide, BadPort, NoMemory}
+use Rattle.port_types.specs.Numeral.{is_numeral}
 use Rattle.port_types.specs.PortText.{port_name}
 
 -- The words
@@ -24,12 +24,6 @@ abbrev pub words_of : List ℕ → List (List ℕ)
 words_of text = filter is_word (slice_split is_blank text)
 
 -- A shape
-
--- a decimal numeral: digits alone, and no zero before another digit
-abbrev pub is_numeral : List ℕ → Bool
-is_numeral [] = false
-is_numeral (digit ∷ []) = is_ascii_digit digit
-is_numeral (first ∷ second ∷ more) = not (first == 48) && list_all is_ascii_digit (first ∷ second ∷ more)
 
 -- 1 to 128 widths, each from 0 to 64
 unfoldable pub is_shape : List ℕ → Bool

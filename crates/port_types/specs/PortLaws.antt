@@ -6,8 +6,9 @@ use Rattle.port_types.specs.declared.side.Side.{Side}
 use Rattle.port_types.specs.declared.port.Port.{Port}
 use Rattle.port_types.specs.declared.port.PortFault.TheVariants.{TooWide}
 use Rattle.port_types.specs.Shape.{IsShape}
-use Rattle.port_types.specs.PortText.{port_name, ports_text, marker_text, marked_texts_from, marked_ports_text}
-use Rattle.port_types.specs.PortGrammar.{is_numeral, is_marker_or_none, are_marked, words_of, port_reading, reading}
+use Rattle.port_types.specs.PortText.{port_name, marker_text, marked_texts_from, marked_ports_text}
+use Rattle.port_types.specs.Numeral.{is_numeral}
+use Rattle.port_types.specs.PortGrammar.{is_marker_or_none, are_marked, words_of, port_reading, reading}
 
 -- ports of the format: at most 64, with its markers, and with shapes
 pub record ArePorts (ports : List Port) : Type 0 where
@@ -37,11 +38,3 @@ pub record IsUnbounded (side : Side) (number : ℕ) (word : List ℕ) : Type 0 w
 -- a word is too wide exactly where only these bounds keep it from being a port's
 abbrev pub TooWideIsUnbounded : Type 0
 TooWideIsUnbounded = (side : Side) (number : ℕ) (word : List ℕ) → (port_reading side number word ≡ Err TooWide) ↔ IsUnbounded side number word
-
--- a port without a marker
-abbrev pub plain : List ℕ → Port
-plain shape = record { marker = None; shape = shape }
-
--- ports without markers have the texts of their shapes
-abbrev pub PlainTexts : Type 0
-PlainTexts = (side : Side) (shapes : List (List ℕ)) → marked_ports_text side (map plain shapes) ≡ ports_text side shapes

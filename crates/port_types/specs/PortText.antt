@@ -19,21 +19,6 @@ side_word Outs = codes "out"
 abbrev pub port_name : Side → ℕ → List ℕ
 port_name side number = side_word side ++ decimal number
 
--- a port with its shape, as `in1:4.32`
-abbrev pub port_text : Side → ℕ → List ℕ → List ℕ
-port_text side number shape = port_name side number ++ codes ":" ++ shape_text shape
-
--- the texts of the ports from this number on
-abbrev pub port_texts_from : Side → ℕ → List (List ℕ) → List (List ℕ)
-port_texts_from side number [] = []
-port_texts_from side number (shape ∷ shapes) = port_text side number shape ∷ port_texts_from side (number + 1) shapes
-
--- the ports of a side, by their shapes, joined by spaces
-abbrev pub ports_text : Side → List (List ℕ) → List ℕ
-ports_text side shapes = join_with_byte 32 (port_texts_from side 1 shapes)
-
--- Ports with markers
-
 abbrev pub marker_text : Option ℕ → List ℕ
 marker_text None = []
 marker_text (Some marker) = marker ∷ []

@@ -1,4 +1,5 @@
-ghost use Rattle.port_types.specs.PortLaws.{ReadsPorts, ReadsBack, TooWideIsUnbounded, PlainTexts};
+ghost use Rattle.port_types.specs.Numeral.{NumeralsTellNumbers};
+ghost use Rattle.port_types.specs.PortLaws.{ReadsPorts, ReadsBack, TooWideIsUnbounded};
 
 /// A text says ports exactly where its words are their texts, and they are at most 64, with markers and shapes of the format.
 pub fn reads_ports()
@@ -15,7 +16,7 @@ pub fn too_wide_is_unbounded()
     ensures { TooWideIsUnbounded }
 {}
 
-/// The printed text of ports without markers is that of their shapes.
-pub fn plain_texts()
-    ensures { PlainTexts }
+/// A number below 2^64 has one decimal numeral, which is what is printed for it.
+pub fn numerals_tell_numbers()
+    ensures { NumeralsTellNumbers }
 {}

@@ -5,7 +5,8 @@ ghost use Rattle.std.specs.Option.{option_map};
 ghost use Rattle.std.specs.Str.Parse.{digits_value};
 ghost use Rattle.std.specs.Fmt.{decimal};
 ghost use Rattle.port_types.specs.PortText.{port_name};
-ghost use Rattle.port_types.specs.PortGrammar.{is_numeral, is_blank, are_marked, is_marker, fields_of, shape_within, shape_reading, with_marker, behind_marker, behind_name, text_behind, port_reading, word_reading, reading, IsReading};
+ghost use Rattle.port_types.specs.Numeral.{is_numeral};
+ghost use Rattle.port_types.specs.PortGrammar.{is_blank, are_marked, is_marker, fields_of, shape_within, shape_reading, with_marker, behind_marker, behind_name, text_behind, port_reading, word_reading, reading, IsReading};
 
 use crate::items::Items;
 use crate::numeral::{is_numeral, small_number, small_value};
@@ -17,9 +18,9 @@ use std::alloc::Global;
 /// The greatest number of ports of a side.
 const MAX_PORTS: usize = 64;
 
-/// What stands behind these bytes, where the text begins with them.
+/// What stands behind these bytes, where the text begins with them; `None` exactly where it does not. Takes no memory.
 #[tactic(auto, unfolding(crate::specs::PortGrammar::text_behind))]
-fn text_behind<'a>(front: &[u8], text: &'a [u8]) -> Option<&'a [u8]>
+pub fn text_behind<'a>(front: &[u8], text: &'a [u8]) -> Option<&'a [u8]>
     ensures { option_map (λ rest. rest.now) result ≡ text_behind front.now text.now }
 {
     text.strip_prefix(front)

@@ -1,7 +1,7 @@
 ghost use Rattle.std.specs.Prelude.{◌≡◌, ◌==◌, ◌≤◌, ◌<◌, [], ◌∷◌, ◌++◌, if◌then◌else◌, true, IsTrue, OnOk, IfOk, length, string_bytes};
 ghost use Rattle.std.specs.Fmt.{decimal};
 ghost use Rattle.port_types.specs.Shape.{IsShape};
-ghost use Rattle.port_types.specs.PortText.{port_name, port_text, ports_text, shape_text, marker_text, marked_text, marked_ports_text};
+ghost use Rattle.port_types.specs.PortText.{port_name, shape_text, marker_text, marked_text, marked_ports_text};
 ghost use Rattle.port_types.specs.PortGrammar.{is_marker_or_none, are_marked, reading};
 
 use crate::memory::NoMemory;
@@ -12,15 +12,16 @@ use crate::text::Text;
 use std::alloc::Global;
 use std::fmt::Write;
 
-/// Appends the name of a port: the word of its side and its number, as `out2`.
-/// After `NoMemory` a part of it may have been appended.
-pub fn push_port_name(text: &mut String, side: Side, number: u8) -> Result<(), NoMemory>
-    ensures { OnOk result (string_bytes text.new ≡ string_bytes text.old ++ port_name side number) }
+/// The name of a port: the word of its side and its number, as `out2`. The only error is want of memory.
+pub fn print_port_name(alloc: Global, side: Side, number: u8) -> Result<Text, NoMemory>
+    ensures { IfOk result (λ text. text ≡ port_name side number) }
 {
-    push_name(text, side, usize::from(number))
+    let mut text = String::new(alloc);
+    push_name(&mut text, side, usize::from(number))?;
+    Ok(Text::from_string(text))
 }
 
-/// The same for any number.
+/// Appends the name of a port.
 fn push_name(text: &mut String, side: Side, number: usize) -> Result<(), NoMemory>
     ensures { OnOk result (string_bytes text.new ≡ string_bytes text.old ++ port_name side number) }
 {
@@ -55,28 +56,6 @@ fn push_shape(text: &mut String, widths: &[u8]) -> Result<(), NoMemory>
     for (index, width) in widths.iter().enumerate() {
         push_separator(text, index, '.')?;
         push_decimal(text, usize::from(*width))?;
-    }
-    Ok(())
-}
-
-/// Appends the text of a port with its shape, as `in1:4.32`. After `NoMemory` a part of it may have been appended.
-pub fn push_port(text: &mut String, side: Side, number: u8, shape: &Shape) -> Result<(), NoMemory>
-    ensures { OnOk result (string_bytes text.new ≡ string_bytes text.old ++ port_text side number shape.now) }
-{
-    push_port_name(text, side, number)?;
-    text.push(':')?;
-    push_shape(text, shape.widths())
-}
-
-/// Appends the texts of the ports of a side, numbered from 1 and joined by spaces, as `in1:1 in2:4.32`.
-/// After `NoMemory` a part of it may have been appended.
-pub fn push_ports(text: &mut String, side: Side, ports: &[Shape]) -> Result<(), NoMemory>
-    requires { length ports.now ≤ 64 }
-    ensures { OnOk result (string_bytes text.new ≡ string_bytes text.old ++ ports_text side ports.now) }
-{
-    for (index, shape) in ports.iter().enumerate() {
-        push_separator(text, index, ' ')?;
-        push_port(text, side, index as u8 + 1, shape)?;
     }
     Ok(())
 }

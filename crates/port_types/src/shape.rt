@@ -2,14 +2,12 @@ ghost use Rattle.std.specs.Prelude.{◌≡◌, ◌↔◌, IsTrue, IsSome, IfSome
 ghost use Rattle.port_types.specs.Shape.{IsShape};
 
 use crate::memory::NoMemory;
+use op_table::MAX_WIDTH;
 use std::alloc::Global;
 use std::marker::Model;
 
 /// The greatest number of fields of a shape.
-const MAX_FIELDS: usize = 128;
-
-/// The greatest width of a field, in bits.
-const MAX_WIDTH: u8 = 64;
+pub const MAX_FIELDS: usize = 128;
 
 /// A shape: the widths of its fields in bits, 1 to 128 of them, each from 0 to 64. Contracts see the list of widths.
 #[derive(Debug, Drop)]

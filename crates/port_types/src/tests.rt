@@ -1,6 +1,7 @@
 use crate::{
-    Items, NoMemory, Shape, Side, Text, Token, fits, is_shape, push_port, push_port_name,
-    push_ports, same_shape,
+    Items, NoMemory, Port, PortFault, Shape, Side, Text, Token, copy_pair, fits, is_shape,
+    print_port_name, print_ports, read_decimal, read_hexadecimal, read_numeral, read_port_name,
+    read_ports, same_shape, tag_width, text_behind,
 };
 use std::alloc::{AllocError, AllocFailed, Global};
 use std::test::Fail;
@@ -9,114 +10,140 @@ fn shape_of(alloc: Global, widths: &[u8]) -> Result<Shape, Fail> {
     Ok(Shape::new(widths.to_vec(alloc)?).ok_or("no shape")?)
 }
 
+fn text_of(alloc: Global, text: &str) -> Result<Text, Fail> {
+    Ok(Text::new(text.as_bytes().to_vec(alloc)?).ok_or("no text")?)
+}
+
+/// The printed text of the ports that a text says.
+fn again(alloc: Global, text: &str, side: Side) -> Result<Text, Fail> {
+    let ports: Items<Port> = read_ports(alloc, text.as_bytes(), side)?;
+    Ok(print_ports(alloc, ports.as_slice(), side)?)
+}
+
 #[test]
-fn texts_of_ports(rt: HostRuntime) -> Result<(), Fail> {
-    let alloc = rt.alloc();
-    for (side, number, widths, name, port) in [
-        (Side::Ins, 1, [8].as_slice(), "in1", "in1:8"),
-        (Side::Outs, 2, [0].as_slice(), "out2", "out2:0"),
+fn ports_are_read_and_printed(rt: HostRuntime) -> Result<(), Fail> {
+    let rows = [
+        (" \t ", ""),
+        ("in1:32 ", "in1:32"),
         (
-            Side::Outs,
-            64,
-            [4, 32, 32].as_slice(),
-            "out64",
-            "out64:4.32.32",
+            "\tin1?:1  in2+:8\t\tin3-:4.32.0",
+            "in1?:1 in2+:8 in3-:4.32.0",
         ),
-    ] {
-        let mut text = String::new(alloc);
-        push_port_name(&mut text, side, number)?;
-        assert_eq!(rt; text.as_str(), name);
+    ];
+    for (text, want) in rows {
+        assert_eq!(rt; again(rt.alloc(), text, Side::Ins)?.as_str(), want);
+    }
+    let text = again(rt.alloc(), "out1:8 out2?:64", Side::Outs)?;
+    assert_eq!(rt; text.as_str(), "out1:8 out2?:64");
+    Ok(())
+}
 
-        let mut text = String::new(alloc);
-        push_port(&mut text, side, number, &shape_of(alloc, widths)?)?;
-        assert_eq!(rt; text.as_str(), port);
+#[test]
+fn the_first_faulty_word_counts(rt: HostRuntime) -> Result<(), Fail> {
+    let rows = [
+        ("in3*l0d:32", PortFault::MemoryPort),
+        ("in1:65 in2*:8", PortFault::TooWide),
+        ("in2:8 in2*:8", PortFault::BadPort),
+        ("in1:99999999999999999999", PortFault::TooWide),
+        ("in1:065.65", PortFault::BadPort),
+        ("in1:8..8", PortFault::BadPort),
+        ("in1??:1", PortFault::BadPort),
+        ("in01:8", PortFault::BadPort),
+        ("in1:8\rin2:8", PortFault::BadPort),
+    ];
+    for (text, want) in rows {
+        let read = read_ports(rt.alloc(), text.as_bytes(), Side::Ins);
+        assert_eq!(rt; read.err(), Some(want), "{text:?}");
+    }
+    Ok(())
+}
+
+/// A word and a piece so many times behind it.
+fn repeated(alloc: Global, word: &str, piece: &str, count: usize) -> Result<String, Fail> {
+    let mut text = String::from_str(alloc, word)?;
+    for _ in 0..count {
+        text.push_str(piece)?;
+    }
+    Ok(text)
+}
+
+#[test]
+fn a_port_has_at_most_128_fields(rt: HostRuntime) -> Result<(), Fail> {
+    let widest = repeated(rt.alloc(), "in1:7", ".7", 127)?;
+    assert!(rt; read_ports(rt.alloc(), widest.as_bytes(), Side::Ins).is_ok());
+    let wider = repeated(rt.alloc(), "in1:7", ".7", 128)?;
+    let read = read_ports(rt.alloc(), wider.as_bytes(), Side::Ins);
+    assert_eq!(rt; read.err(), Some(PortFault::TooWide));
+    Ok(())
+}
+
+#[test]
+fn names_of_ports(rt: HostRuntime) -> Result<(), Fail> {
+    let name = print_port_name(rt.alloc(), Side::Outs, 64)?;
+    assert_eq!(rt; name.as_str(), "out64");
+    let rows = [
+        ("in255", Some(255)),
+        ("in256", None),
+        ("in0", None),
+        ("in01", None),
+        ("out1", None),
+    ];
+    for (text, want) in rows {
+        assert_eq!(rt; read_port_name(text.as_bytes(), Side::Ins), want, "{text}");
     }
     Ok(())
 }
 
 #[test]
-fn texts_of_sides(rt: HostRuntime) -> Result<(), Fail> {
-    let alloc = rt.alloc();
-    let mut ports = Vec::new(alloc);
-    for (widths, want) in [
-        ([1].as_slice(), "ports in1:1"),
-        ([4, 32].as_slice(), "ports in1:1 in2:4.32"),
-        ([64].as_slice(), "ports in1:1 in2:4.32 in3:64"),
-    ] {
-        ports.push(shape_of(alloc, widths)?)?;
-        assert!(rt; ports.len() <= 64);
-        let mut text = String::from_str(alloc, "ports ")?;
-        push_ports(&mut text, Side::Ins, &ports)?;
-        assert_eq!(rt; text.as_str(), want);
+fn numbers(rt: HostRuntime) -> Result<(), Fail> {
+    let rows = [
+        ("0", Some(0), Some(0), Some(0)),
+        ("18446744073709551615", Some(u64::MAX), Some(u64::MAX), None),
+        ("18446744073709551616", None, None, None),
+        ("007", None, Some(7), Some(7)),
+        ("fF", None, None, Some(255)),
+        ("", None, None, None),
+        ("1 ", None, None, None),
+    ];
+    for (text, numeral, decimal, hexadecimal) in rows {
+        assert_eq!(rt; read_numeral(text.as_bytes()), numeral, "{text}");
+        assert_eq!(rt; read_decimal(text.as_bytes()), decimal, "{text}");
+        assert_eq!(rt; read_hexadecimal(text.as_bytes()), hexadecimal, "{text}");
     }
-    let mut text = String::new(alloc);
-    push_ports(&mut text, Side::Outs, &[])?;
-    assert_eq!(rt; text.as_str(), "");
+    assert_eq!(rt; text_behind(b"0x", b"0x1f"), Some(b"1f".as_slice()));
     Ok(())
 }
 
 #[test]
-fn bounds_of_shapes(rt: HostRuntime) -> Result<(), Fail> {
+fn shapes(rt: HostRuntime) -> Result<(), Fail> {
     let alloc = rt.alloc();
     for (fields, width, want) in [
         (0, 1, false),
-        (1, 0, true),
-        (1, 64, true),
-        (1, 65, false),
         (128, 64, true),
         (129, 64, false),
+        (1, 65, false),
     ] {
-        let widths = vec![in alloc; width; fields]?;
-        assert_eq!(rt; is_shape(&widths), want, "{fields} of {width}");
-        let made = Shape::new(widths);
-        assert_eq!(rt; made.is_some(), want, "{fields} of {width}");
+        assert_eq!(rt;
+            is_shape(&vec![in alloc; width; fields]?),
+            want,
+            "{fields} of {width}"
+        );
     }
-    Ok(())
-}
-
-#[test]
-fn equal_shapes(rt: HostRuntime) -> Result<(), Fail> {
-    let alloc = rt.alloc();
     let shape = shape_of(alloc, &[4, 32])?;
     let copy = shape.copy(alloc)?;
     assert_eq!(rt; copy.widths(), [4, 32].as_slice());
     assert!(rt; same_shape(&shape, &copy));
-    for widths in [
-        [4].as_slice(),
-        [4, 31].as_slice(),
-        [32, 4].as_slice(),
-        [4, 32, 1].as_slice(),
-    ] {
-        assert!(rt;
-            !same_shape(&shape, &shape_of(alloc, widths)?),
-            "{widths:?}"
-        );
-    }
+    assert!(rt; !same_shape(&shape, &shape_of(alloc, &[32, 4])?));
     Ok(())
 }
 
 #[test]
 fn tokens_that_fit(rt: HostRuntime) -> Result<(), Fail> {
-    let alloc = rt.alloc();
-    for (widths, numbers, want) in [
-        ([0].as_slice(), [0].as_slice(), true),
-        ([0].as_slice(), [1].as_slice(), false),
-        ([1].as_slice(), [1].as_slice(), true),
-        ([1].as_slice(), [2].as_slice(), false),
-        ([63].as_slice(), [0x7fff_ffff_ffff_ffff].as_slice(), true),
-        ([63].as_slice(), [0x8000_0000_0000_0000].as_slice(), false),
-        ([64].as_slice(), [u64::MAX].as_slice(), true),
-        ([8, 8].as_slice(), [255, 256].as_slice(), false),
-        ([8, 8].as_slice(), [255].as_slice(), false),
-        ([8].as_slice(), [255, 0].as_slice(), false),
-    ] {
-        let token = Token::new(numbers.to_vec(alloc)?);
-        assert_eq!(rt; token.fields(), numbers);
-        assert_eq!(rt;
-            fits(&shape_of(alloc, widths)?, &token),
-            want,
-            "{numbers:?} at {widths:?}"
-        );
+    let shape = shape_of(rt.alloc(), &[0, 64])?;
+    for (numbers, want) in [([0, u64::MAX], true), ([1, 0], false)] {
+        let token = Token::new(numbers.to_vec(rt.alloc())?);
+        assert_eq!(rt; token.fields(), numbers.as_slice());
+        assert_eq!(rt; fits(&shape, &token), want, "{numbers:?}");
     }
     Ok(())
 }
@@ -124,28 +151,22 @@ fn tokens_that_fit(rt: HostRuntime) -> Result<(), Fail> {
 #[test]
 fn texts_are_utf8(rt: HostRuntime) -> Result<(), Fail> {
     let alloc = rt.alloc();
-    for bytes in [
-        [255].as_slice(),
-        [0xc3].as_slice(),
-        [b'a', 0xe2, 0x82].as_slice(),
-    ] {
-        assert!(rt; Text::new(bytes.to_vec(alloc)?).is_none(), "{bytes:?}");
-    }
-    for want in ["", "mux", "a\u{e9}\u{20ac}\u{1f600}"] {
-        let text = Text::new(want.as_bytes().to_vec(alloc)?).ok_or("not UTF-8")?;
-        let copy = text.copy(alloc)?;
-        assert_eq!(rt; copy.as_str(), want);
-        assert_eq!(rt; copy.bytes(), want.as_bytes());
-    }
+    assert!(rt; Text::new([0xc3].to_vec(alloc)?).is_none());
+    let text = text_of(alloc, "a\u{20ac}")?;
+    assert_eq!(rt; text.copy(alloc)?.bytes(), "a\u{20ac}".as_bytes());
+    let pair = copy_pair(alloc, &(text, Text::from_string(String::new(alloc))))?;
+    assert_eq!(rt; (pair.0.as_str(), pair.1.as_str()), ("a\u{20ac}", ""));
     Ok(())
 }
 
 #[test]
-fn items_of_a_vector(rt: HostRuntime) -> Result<(), Fail> {
-    let items = Items::new([3u8, 1, 2].to_vec(rt.alloc())?);
-    assert_eq!(rt; items.as_slice(), [3, 1, 2].as_slice());
-    let vector = items.into_vec();
-    assert_eq!(rt; vector.as_slice(), [3, 1, 2].as_slice());
+fn items_and_tags(rt: HostRuntime) -> Result<(), Fail> {
+    let items = Items::new([3u8, 1].to_vec(rt.alloc())?);
+    assert_eq!(rt; items.as_slice(), [3, 1].as_slice());
+    assert_eq!(rt; items.into_vec().as_slice(), [3, 1].as_slice());
+    for (tags, want) in [(1, 1), (2, 1), (3, 2), (128, 7), (129, 8), (256, 8)] {
+        assert_eq!(rt; tag_width(tags), want, "{tags}");
+    }
     Ok(())
 }
 

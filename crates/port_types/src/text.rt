@@ -65,3 +65,12 @@ impl Text {
         Ok(Text { text })
     }
 }
+
+/// An equal key and value of their own. The only error is want of memory.
+pub fn copy_pair(alloc: Global, pair: &(Text, Text)) -> Result<(Text, Text), NoMemory>
+    ensures { IfOk result (λ copy. copy ≡ pair.now) }
+{
+    let key = pair.0.copy(alloc)?;
+    let value = pair.1.copy(alloc)?;
+    Ok((key, value))
+}

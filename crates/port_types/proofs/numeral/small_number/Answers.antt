@@ -1,7 +1,7 @@
 use Rattle.std.proofs.Common.{◌≡◌, false, true, ◌<◌, ◌^◌, sym, ◌∙◌, ap, arith, rules, tests}
 use Rattle.std.specs.Str.Parse.{digits_value}
 use Rattle.std.specs.Fmt.{decimal}
-use Rattle.port_types.specs.PortGrammar.{is_numeral}
+use Rattle.port_types.specs.Numeral.{is_numeral}
 use Rattle.port_types.proofs.Numerals.{written, not_written, too_great, not_zero}
 use Rattle.port_types.proofs.numeral.small_number.Goals as goal
 

@@ -1,7 +1,7 @@
 use Rattle.std.proofs.Common.{rules, tests}
 use Rattle.std.proofs.lemmas.Iterator.Search.{all_from_yields_List}
 use Rattle.std.proofs.lemmas.Iterator.Splits.{YieldsList-from_slice_split}
-use Rattle.port_types.specs.PortGrammar.{is_numeral}
+use Rattle.port_types.specs.Numeral.{is_numeral}
 use Rattle.port_types.proofs.port_reading.are_numerals.Goals as goal
 
 pub returns : goal.returns

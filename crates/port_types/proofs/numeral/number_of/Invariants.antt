@@ -1,6 +1,6 @@
 use Rattle.std.proofs.Common.{◌≡◌, ◌<◌, ◌^◌, take}
 use Rattle.std.specs.Str.Parse.{digits_value}
-use Rattle.graph_read.proofs.attributes.number_of.Given as goal
+use Rattle.port_types.proofs.numeral.number_of.Given as goal
 
 abbrev pub invariant-loop-byte : goal.invariant-loop-byte
 invariant-loop-byte l = (l.number ≡ digits_value l.base (take l.byte-index l.digits)) × (l.number < 2 ^ 64)

@@ -3,9 +3,9 @@ use Rattle.std.specs.Str.Parse.{digits_value}
 use Rattle.std.proofs.lemmas.Int.Digits.{digits_value_more}
 use Rattle.std.proofs.lemmas.List.{take_all}
 use Rattle.std.proofs.lemmas.Str.Parse.{digits_value-take-le}
-use Rattle.graph_read.specs.Attributes.{in_word}
-use Rattle.graph_read.proofs.Numbers.{past_word, word_is, word_some}
-use Rattle.graph_read.proofs.attributes.number_of.Goals as goal
+use Rattle.port_types.specs.Numeral.{in_word}
+use Rattle.port_types.proofs.Numbers.{past_word, word_is, word_some}
+use Rattle.port_types.proofs.numeral.number_of.Goals as goal
 
 pub loop-byte-preserved : goal.loop-byte-preserved
 loop-byte-preserved c =

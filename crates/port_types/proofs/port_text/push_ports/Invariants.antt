@@ -1,6 +1,0 @@
-use Rattle.std.proofs.Common.{◌≡◌, ◌++◌, take, string_bytes}
-use Rattle.port_types.specs.PortText.{ports_text}
-use Rattle.port_types.proofs.port_text.push_ports.Given as goal
-
-abbrev pub invariant-loop-index : goal.invariant-loop-index
-invariant-loop-index l = string_bytes l.text ≡ string_bytes l.fn.text ++ ports_text l.side (take l.index l.ports)
