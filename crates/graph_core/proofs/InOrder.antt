@@ -8,6 +8,9 @@ use Rattle.std.specs.declared.cmp.Ordering.TheVariants.{Less, Equal, Greater}
 use Rattle.std.specs.BTreeMap.{insert_entry}
 use Rattle.std.specs.FinMap as map
 use Rattle.std.specs.FinMap.Entries.{put, by_order}
+use Rattle.std.specs.Cmp.{Equal-is}
+use Rattle.std.proofs.lemmas.List.{nil_from_length}
+use Rattle.std.proofs.lemmas.Option.{none-some}
 use Rattle.graph_core.specs.declared.node.Node.{Node}
 use Rattle.graph_core.specs.declared.place.NodeId.{NodeId}
 use Rattle.graph_core.specs.Name.{Name, name_cmp}
@@ -16,7 +19,6 @@ use Rattle.graph_core.specs.GraphValue.{flat, named, named_nodes}
 use Rattle.graph_core.specs.Inside.{IsNamedAt, AreNamedApart}
 use Rattle.graph_core.proofs.ByKey.{Matches, Matches-insert, ref_cmp}
 use Rattle.graph_core.proofs.Orders.{name_total, name_same}
-use Rattle.graph_core.proofs.Known.{not_None}
 
 -- what stands behind an id
 abbrev pub named_at : List (Option Node) → NodeId → Option (Name × Body)
@@ -49,19 +51,14 @@ record Before (slots : List (Option Node)) (i : ℕ) (name : Name) : Type 0 wher
 later : {slot : Option Node} {slots : List (Option Node)} {i : ℕ} {name : Name} → Before slots i name → Before (slot ∷ slots) (suc i) name
 later before = let below : suc before.index < suc _ = omega (arith, before.below) in record { index = suc before.index; below = below; has = before.has }
 
-tied : (r : Ordering) → is_eq r ≡ true → r ≡ Equal
-tied Less e = absurd (true≢false (sym e))
-tied Equal e = refl
-tied Greater e = absurd (true≢false (sym e))
-
 found_before : (slots : List (Option Node)) (i : ℕ) (name : Name) (body : Body) → map.find name_cmp name (named_nodes (take i slots)) ≡ Some body → Before slots i name
-found_before slots zero name body e = absurd (not_None (sym e))
-found_before [] (suc i) name body e = absurd (not_None (sym e))
+found_before slots zero name body e = absurd (none-some _ e)
+found_before [] (suc i) name body e = absurd (none-some _ e)
 found_before (None ∷ slots) (suc i) name body e = later (found_before slots i name body e)
 found_before (Some node ∷ slots) (suc i) name body e = at (found_before slots i name body) (eq_by_cmp name_cmp name node.name) refl
   where
     at : (map.find name_cmp name (named_nodes (take i slots)) ≡ Some body → Before slots i name) → (b : Bool) → eq_by_cmp name_cmp name node.name ≡ b → Before (Some node ∷ slots) (suc i) name
-    at rest true is = record { index = 0; below = omega arith; has = (node, refl, sym (name_same name node.name (tied _ is))) }
+    at rest true is = record { index = 0; below = omega arith; has = (node, refl, sym (name_same name node.name ((Equal-is _).0 is))) }
     at rest false is = later (rest (ap (λ b. cond b (Some (body_of node)) (map.find name_cmp name (named_nodes (take i slots)))) (sym is) ∙ e))
 
 fresh : (slots : List (Option Node)) (i : ℕ) (node : Node) → AreNamedApart slots → flat (slice_get slots i) ≡ Some node → map.find name_cmp node.name (named_nodes (take i slots)) ≡ None
@@ -87,12 +84,8 @@ pub so_far-none : (slots : List (Option Node)) (i : ℕ) → flat (slice_get slo
 so_far-none slots i none =
     ap (λ n. so_far slots n) (add-one i) ∙ ap (λ es. map.entries (map.from_entries {R = name_cmp} es)) (named_nodes-take slots i ∙ ap (λ o. named_nodes (take i slots) ++ one o) none ∙ append-nil (named_nodes (take i slots)))
 
-empty_list : {A : Type 0} (xs : List A) → length xs ≡ 0 → xs ≡ []
-empty_list [] e = refl
-empty_list (x ∷ xs) e = absurd (omega arith)
-
 pub so_far-nothing : (slots : List (Option Node)) → so_far slots 0 ≡ []
-so_far-nothing slots = empty_list _ (sym (map.len-entries (map.empty {R = name_cmp})) ∙ map.len-empty name_cmp Body)
+so_far-nothing slots = nil_from_length _ (sym (map.len-entries (map.empty {R = name_cmp})) ∙ map.len-empty name_cmp Body)
 
 pub so_far-all : (slots : List (Option Node)) (i : ℕ) → length slots ≤ i → so_far slots i ≡ map.entries (map.from_entries {R = name_cmp} (named_nodes slots))
 so_far-all slots i past = ap (λ s. map.entries (map.from_entries {R = name_cmp} (named_nodes s))) (take_all i slots past)

@@ -8,14 +8,13 @@ use Rattle.std.specs.FinMap.{FinMap, empty, entries, entries_sorted, entries-ins
 use Rattle.std.specs.FinMap.Entries.{put, below_all}
 use Rattle.std.proofs.lemmas.Bool.{false_from_ne_true, not-true}
 use Rattle.std.proofs.lemmas.List.{reverse-append, map-id, take_more, take_all, nil_from_length}
-use Rattle.std.proofs.lemmas.List.Elements.{All-contains, All-from_recursion, filter-append, filter_passes}
+use Rattle.std.proofs.lemmas.List.Elements.{All-contains, All-weaker, filter-append, filter_passes}
 use Rattle.graph_core.specs.declared.kind.Kind.{Kind}
 use Rattle.graph_core.specs.Name.{name_cmp}
 use Rattle.graph_core.specs.Node.{IsOwned, KeptOk, is_owned, kept_of}
-use Rattle.graph_core.proofs.Alike.{Pair, contains_found}
-use Rattle.graph_core.proofs.Each.{each_weaker}
+use Rattle.graph_core.proofs.Alike.{Pair}
 use Rattle.graph_core.proofs.ByKey.{Matches, Matches-insert, Matches-values, ref_cmp}
-use Rattle.graph_core.proofs.Maps.{each_found, keys_apart}
+use Rattle.graph_core.proofs.Maps.{contains_found, each_found, keys_apart}
 use Rattle.graph_core.proofs.Options.{answer_cases}
 use Rattle.graph_core.proofs.Orders.{name_total, name_same}
 
@@ -83,13 +82,13 @@ module _ (kind : Kind) where
   entry_unowned : (pairs : List Pair) (e : Pair) → get (kept_of kind pairs) e.0 ≡ Some e.1 → ¬ (IsOwned kind e.0)
   entry_unowned pairs e found =
       let free = filter is_kept (reverse pairs) in
-      let there = contains_found free e.0 e.1 (sym (get-from_entries name_total free e.0) ∙ found) in
+      let there = contains_found name_total name_same free e.0 e.1 (sym (get-from_entries name_total free e.0) ∙ found) in
       not_owned e (All-contains (λ p. is_kept p ≡ true) free (e.0, e.1) (filter_passes is_kept (reverse pairs)) there)
 
   pub KeptOk-kept_of : (pairs : List Pair) → KeptOk kind (entries (kept_of kind pairs))
   KeptOk-kept_of pairs =
-      let each = each_weaker (λ e. get (kept_of kind pairs) e.0 ≡ Some e.1) (λ e. ¬ (IsOwned kind e.0)) (entry_unowned pairs) (entries (kept_of kind pairs)) (each_found name_total name_same (kept_of kind pairs)) in
-      record { distinct = keys_apart name_total name_same (entries (kept_of kind pairs)) (entries_sorted (kept_of kind pairs)); unowned = All-from_recursion _ (entries (kept_of kind pairs)) each }
+      let each = All-weaker (λ e. get (kept_of kind pairs) e.0 ≡ Some e.1) (λ e. ¬ (IsOwned kind e.0)) (entry_unowned pairs) (entries (kept_of kind pairs)) (each_found name_total name_same (kept_of kind pairs)) in
+      record { distinct = keys_apart name_total name_same (entries (kept_of kind pairs)) (entries_sorted (kept_of kind pairs)); unowned = each }
 
   -- ---- pairs that it may keep are all kept
 
@@ -97,7 +96,7 @@ module _ (kind : Kind) where
   find_none pair pairs distinct =
       elim (answer_cases (find name_cmp pair.0 pairs)) [
         | inl found ↦
-            let there = contains_found pairs pair.0 found.0 found.1 in
+            let there = contains_found name_total name_same pairs pair.0 found.0 found.1 in
             absurd (distinct 0 (suc there.0) (pair.0, found.0) (omega arith) (omega (arith, there.1)) (ap (λ (p : Pair). p.0) (sym there.2)))
         | inr none ↦ none
       ]

@@ -1,12 +1,10 @@
 mod Options
-mod Each
 mod Maps
 mod NamedNodes
 mod Feeds
 pub mod Alike
 pub mod SameGraphs
 pub mod Orders
-pub mod Known
 pub mod PortLists
 pub mod PortFields
 pub mod PortShapes

@@ -3,17 +3,11 @@ ghost use Rattle.std.specs.List.{concat};
 ghost use Rattle.port_types.specs.Shape.{IsShape};
 ghost use Rattle.graph_core.specs.Kind.{ins, outs, ports, KindOk, AreParts, IsCount};
 
-use op_table::{Op, typed_op};
-use port_types::{Items, Shape, Side, is_shape};
+use op_table::{MAX_WIDTH, Op, typed_op};
+use port_types::{Items, MAX_FIELDS, Shape, Side, is_shape};
 
 /// The greatest number of ports of a side.
 const MAX_PORTS: u8 = 64;
-
-/// The greatest number of fields of a shape.
-const MAX_FIELDS: usize = 128;
-
-/// The greatest width of a field, in bits.
-const MAX_WIDTH: u8 = 64;
 
 /// The greatest number of tags.
 const MAX_TAGS: u16 = 256;

@@ -5,11 +5,8 @@ ghost use Rattle.graph_core.specs.Name.{port_get};
 
 use crate::fields::field_at;
 use crate::kind::{Kind, port_count};
-use port_types::{NoMemory, Shape, Side};
+use port_types::{MAX_FIELDS, NoMemory, Shape, Side};
 use std::alloc::Global;
-
-/// The greatest number of fields of a shape.
-const MAX_FIELDS: usize = 128;
 
 /// Whether the kind has this port.
 pub(crate) fn has_port(kind: &Kind, side: Side, port: u8) -> bool
