@@ -1,12 +1,11 @@
 //! The statement of a wire.
 
 ghost use Rattle.std.specs.Prelude.{◌≡◌, IfOk};
-ghost use Rattle.port_types.specs.PortText.{port_name};
 ghost use Rattle.graph_print.specs.CanonicalText.{edge_entry};
 
-use crate::texts::{own_text, push_pair};
+use crate::texts::push_pair;
 use dot_text::DocEdge;
-use port_types::{Items, NoMemory, Side, Text, push_port_name};
+use port_types::{Items, NoMemory, Side, Text, print_port_name};
 use std::alloc::Global;
 
 /// The statement of the wire from an output of the node named `source` to an input of the node named `target`. The only error is want of memory.
@@ -21,8 +20,8 @@ pub(crate) fn edge_entry(
 {
     let source = source.copy(alloc)?;
     let target = target.copy(alloc)?;
-    let from = port_name(alloc, Side::Outs, output)?;
-    let to = port_name(alloc, Side::Ins, input)?;
+    let from = print_port_name(alloc, Side::Outs, output)?;
+    let to = print_port_name(alloc, Side::Ins, input)?;
     let mut pairs = Vec::new(alloc);
     push_pair(alloc, &mut pairs, "from", from)?;
     push_pair(alloc, &mut pairs, "to", to)?;
@@ -31,13 +30,4 @@ pub(crate) fn edge_entry(
         target,
         pairs: Items::new(pairs),
     })
-}
-
-/// The name of a port, as `out2`.
-fn port_name(alloc: Global, side: Side, number: u8) -> Result<Text, NoMemory>
-    ensures { IfOk result (λ name. name ≡ port_name side number) }
-{
-    let mut name = String::new(alloc);
-    push_port_name(&mut name, side, number)?;
-    Ok(own_text(name))
 }

@@ -4,7 +4,7 @@ ghost use Rattle.std.specs.Prelude.{◌≡◌, ◌≢◌, ◌++◌, map, AllPair
 ghost use Rattle.std.specs.FinMap.{entries, from_entries};
 ghost use Rattle.graph_core.specs.Name.{name_cmp};
 
-use port_types::{NoMemory, Text};
+use port_types::{NoMemory, Text, copy_pair};
 use std::alloc::Global;
 use std::collections::BTreeMap;
 
@@ -19,18 +19,9 @@ pub(crate) fn push_kept(
 {
     let kept = kept_by_key(alloc, kept)?;
     for pair in &kept {
-        pairs.push(copy_of(alloc, pair)?)?;
+        pairs.push(copy_pair(alloc, pair)?)?;
     }
     Ok(())
-}
-
-/// An equal pair of its own.
-fn copy_of(alloc: Global, pair: &(Text, Text)) -> Result<(Text, Text), NoMemory>
-    ensures { IfOk result (λ copy. copy ≡ pair.now) }
-{
-    let key = pair.0.copy(alloc)?;
-    let value = pair.1.copy(alloc)?;
-    Ok((key, value))
 }
 
 /// Attributes in the byte order of their keys.

@@ -4,7 +4,7 @@ ghost use Rattle.std.specs.Prelude.{◌≡◌, ◌++◌, ◌==◌, OnOk, IfOk, S
 ghost use Rattle.std.specs.Fmt.{decimal};
 ghost use Rattle.graph_print.specs.CanonicalText.{kind_word, own_pairs, marker, operand_marker, hexadecimal, mark_pairs};
 
-use crate::texts::{own_text, push_pair, text_from};
+use crate::texts::{push_pair, text_from};
 use graph_core::Kind;
 use op_table::{Op, op_name};
 use port_types::{NoMemory, Side, Text};
@@ -114,7 +114,7 @@ fn decimal(alloc: Global, number: u16) -> Result<Text, NoMemory>
 {
     let mut text = String::new(alloc);
     write!(text, "{number}")?;
-    Ok(own_text(text))
+    Ok(Text::from_string(text))
 }
 
 /// A value in hexadecimal, as `0x1f`.
@@ -123,5 +123,5 @@ fn hexadecimal(alloc: Global, value: u64) -> Result<Text, NoMemory>
 {
     let mut text = String::new(alloc);
     write!(text, "0x{value:x}")?;
-    Ok(own_text(text))
+    Ok(Text::from_string(text))
 }

@@ -1,27 +1,15 @@
 //! Texts, and pairs of texts.
 
-ghost use Rattle.std.specs.Prelude.{◌≡◌, [], ◌∷◌, ◌++◌, IfOk, OnOk, string_bytes};
+ghost use Rattle.std.specs.Prelude.{◌≡◌, [], ◌∷◌, ◌++◌, IfOk, OnOk};
 
 use port_types::{NoMemory, Text};
 use std::alloc::Global;
-
-/// The text of a string. Takes no memory.
-pub(crate) fn own_text(string: String) -> Text
-    ensures { result ≡ string_bytes string }
-{
-    // A proof knows that a `String` is UTF-8 once it is read as a `str`.
-    let _ = string.as_str();
-    match Text::new(string.into_bytes()) {
-        Some(text) => text,
-        None => unreachable!(),
-    }
-}
 
 /// A text of its own with these characters. The only error is want of memory.
 pub(crate) fn text_from(alloc: Global, characters: &str) -> Result<Text, NoMemory>
     ensures { IfOk result (λ text. text ≡ characters.now) }
 {
-    Ok(own_text(String::from_str(alloc, characters)?))
+    Ok(Text::from_string(String::from_str(alloc, characters)?))
 }
 
 /// Appends the pair of a key and a value. After `NoMemory` the pairs are as they were.

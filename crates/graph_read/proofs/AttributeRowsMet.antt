@@ -2,16 +2,16 @@
 use Rattle.std.proofs.Common.{◌≡◌, ◌⊎◌, inl, inr, ℕ, ◌==◌, ◌&&◌, ◌≤◌, Bool, true, false, cond, List, [], ◌∷◌, length, map, Option, Some, None, Ok, Err, refl, sym, ap, subst, ◌∙◌, arith}
 use Rattle.std.specs.Prelude.{bytes_eq, nat_le, codes, find}
 use Rattle.std.specs.List.{concat}
-use Rattle.std.specs.Str.Parse.{digits_value}
 use Rattle.std.proofs.lemmas.Bool.{leb-true, eqb-true, and_parts}
 use Rattle.std.proofs.lemmas.List.Elements.{All-head}
+use Rattle.std.proofs.lemmas.Option.{none-some, cond_some}
 use Rattle.std.proofs.lemmas.Slice.Eq.{bytes_eq-Decides}
 use Rattle.op_table.specs.declared.op.Op.{Op}
 use Rattle.op_table.specs.Operator.{graph_word}
 use Rattle.op_table.specs.Table.{ops, op_named, is_typed_op}
 use Rattle.op_table.specs.Laws.{WidthsAreTested}
 use Rattle.port_types.specs.Shape.{IsShape}
-use Rattle.port_types.specs.PortGrammar.{is_numeral}
+use Rattle.port_types.specs.Numeral.{numeral_value}
 use Rattle.port_types.specs.Tag.{tag_width}
 use Rattle.graph_core.specs.declared.kind.Kind.{Kind}
 use Rattle.graph_core.specs.declared.kind.Kind as kind
@@ -20,7 +20,7 @@ use Rattle.graph_read.specs.declared.component.Component.{Component}
 use Rattle.graph_read.specs.declared.component.Component as component
 use Rattle.graph_read.specs.declared.fault.GraphFaultKind.{GraphFaultKind}
 use Rattle.graph_read.specs.declared.fault.GraphFaultKind.TheVariants.{BadPorts, BadOp, BadValue, BadTags}
-use Rattle.graph_read.specs.Attributes.{Pair, last_value, value_of, tags_of}
+use Rattle.graph_read.specs.Attributes.{Pair, last_value, value_of, tags_within, tags_of}
 use Rattle.graph_read.specs.Rows.{Reading, all_are, are_fields, operator_at, operator_named, operator_typed, constant_at, constant_of, constant_with, init_at, init_with, init_marked, start_of, mark_of, tagger_at, tagger_of, tagger_with, row_reading}
 use Rattle.graph_read.specs.Laws.{MeetsRow, AreRead}
 use Rattle.graph_read.proofs.RowsMet.{same_kind, refused, same_shape, same_shapes, becomes, entry-met, exit-met, buffer-met, fork-met, join-met, split-met, source-met, sink-met, mux-met, branch-met, merge-met, ctrl_merge-met}
@@ -35,19 +35,17 @@ then_read : (test : Bool) (reading : Reading) (k : Kind) (fault : GraphFaultKind
 then_read true reading k fault e = (refl, e)
 then_read false reading k fault e = refused fault k e
 
-if_some : (test : Bool) (x y : ℕ) → cond test (Some x) None ≡ Some y → (test ≡ true) × (x ≡ y)
-if_some true x y e = (refl, cc)
-if_some false x y e = absurd (cc)
-
 -- ---- numbers
 
+few_within : (number : Option ℕ) (tags : ℕ) → tags_within number ≡ Some tags → (1 ≤ tags) × (tags ≤ 256)
+few_within None tags e = absurd (none-some tags e)
+few_within (Some number) tags e =
+    let found = cond_some (nat_le 1 number && nat_le number 256) number tags e in
+    let tests = and_parts (nat_le 1 number) (nat_le number 256) found.0 in
+    (omega (arith, leb-true 1 number tests.0, found.1), omega (arith, leb-true number 256 tests.1, found.1))
+
 tags_few : (text : List ℕ) (tags : ℕ) → tags_of text ≡ Some tags → (1 ≤ tags) × (tags ≤ 256)
-tags_few text tags e =
-    let number = digits_value 10 text in
-    let found = if_some (is_numeral text && nat_le 1 number && nat_le number 256) number tags e in
-    let tests = and_parts (is_numeral text && nat_le 1 number) (nat_le number 256) found.0 in
-    let first = and_parts (is_numeral text) (nat_le 1 number) tests.0 in
-    (omega (arith, leb-true 1 number first.1, found.1), omega (arith, leb-true number 256 tests.1, found.1))
+tags_few text = few_within (numeral_value text)
 
 start_says : (given : Option (List ℕ)) (value : ℕ) → start_of given ≡ Some value →
     ((given ≡ None) × (value ≡ 0)) ⊎ ((text : List ℕ) × (given ≡ Some text) × (value_of text ≡ Some value))

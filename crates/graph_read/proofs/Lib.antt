@@ -1,5 +1,4 @@
 mod Pairs
-mod Numbers
 mod Names
 mod Lookups
 mod KeptPairs

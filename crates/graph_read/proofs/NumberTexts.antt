@@ -1,18 +1,18 @@
 -- Numbers read as they are written.
-use Rattle.std.proofs.Common.{◌≡◌, ◌==◌, ◌&&◌, ℕ, zero, suc, ◌<◌, ◌^◌, Bool, true, false, cond, List, [], ◌∷◌, ◌++◌, length, get_or, take, drop, Option, Some, None, decimal, refl, sym, ap, ◌∙◌, arith, rules}
+use Rattle.std.proofs.Common.{◌≡◌, ◌==◌, ◌&&◌, ℕ, ◌<◌, ◌^◌, Bool, true, false, cond, List, [], ◌∷◌, ◌++◌, length, take, drop, Option, Some, None, decimal, refl, sym, ap, ◌∙◌, arith, rules}
 use Rattle.std.specs.Prelude.{bytes_eq, nat_le, codes}
 use Rattle.std.specs.Char.{is_ascii_digit, is_ascii_hexdigit, digit_value}
 use Rattle.std.specs.Fmt.{digits}
 use Rattle.std.specs.List.{list_all}
 use Rattle.std.specs.Str.Parse.{digits_value, AllDigits}
-use Rattle.std.proofs.lemmas.Bool.{and_from, and_parts, le-leb}
+use Rattle.std.proofs.lemmas.Bool.{and_from, and_parts, le-leb, lt-ltb}
 use Rattle.std.proofs.lemmas.Bool.Decides.{nat_tests}
-use Rattle.std.proofs.lemmas.Fmt.{decimal_digit, digits_decimal, digits_value-decimal, decimal_nonempty, first_decimal, digits_is_IsNumeral}
+use Rattle.std.proofs.lemmas.Fmt.{digits_decimal, digits_value-decimal, decimal_nonempty, digits_is_IsNumeral}
 use Rattle.std.proofs.lemmas.Str.Parse.{IsDigitsTest, IsNumeralModel, numerals_by_value}
-use Rattle.port_types.specs.PortGrammar.{is_numeral, text_behind}
-use Rattle.graph_read.specs.Attributes.{in_word, digits_of, value_behind}
+use Rattle.port_types.specs.Numeral.{in_word, digits_of, NumeralsTellNumbers}
+use Rattle.port_types.specs.PortGrammar.{text_behind}
+use Rattle.graph_read.specs.Attributes.{value_behind, tags_within}
 use Rattle.graph_read.specs.Laws.{DecimalValues, HexadecimalValues, DecimalTags}
-use Rattle.graph_read.proofs.Numbers.{word_some}
 
 abbrev AreDigits : List ℕ → Type 0
 AreDigits text = list_all is_ascii_digit text ≡ true
@@ -29,7 +29,7 @@ digits_read : (is_digit : ℕ → Bool) (base number : ℕ) (text : List ℕ) �
     digits_of is_digit base text ≡ Some number
 digits_read is_digit base number text some all is small =
     ap (λ (b : Bool). cond b (in_word (digits_value base text)) None) (and_from (nat_le 1 (length text)) (list_all is_digit text) (le-leb 1 (length text) (omega arith)) all)
-    ∙ sym (word_some (digits_value base text) number (sym is) small)
+    ∙ ap in_word is ∙ ap (λ (b : Bool). cond b (Some number) None) (lt-ltb number (2 ^ 64) (omega arith))
 
 not_both : (b : Bool) → (b && false) ≡ false
 not_both true = refl
@@ -75,25 +75,9 @@ hexadecimal_values number small =
     ap (λ (o : Option (List ℕ)). value_behind o (codes "0x" ++ text)) (after_front text)
     ∙ digits_read is_ascii_hexdigit 16 number text written.0.0 (hex_digits text written.0.1) written.1 small
 
--- ---- numerals
+-- ---- numbers of tags
 
-numeral_from : (text : List ℕ) → AreDigits text → 0 < length text → (get_or text 0 0 ≡ 48 → length text ≡ 1) → is_numeral text ≡ true
-numeral_from [] all some no_zero = absurd (omega arith)
-numeral_from (x ∷ []) all some no_zero = grind (arith, nat_tests)
-numeral_from (x ∷ y ∷ more) all some no_zero = grind (arith, nat_tests)
-
-one_digit : (number : ℕ) → number < 2 ^ 64 → get_or (decimal number) 0 0 ≡ 48 → length (decimal number) ≡ 1
-one_digit zero small first = ap length (decimal_digit 0 (omega arith))
-one_digit (suc number) small first = let positive = first_decimal (suc number) (omega arith) small in absurd (omega arith)
-
-pub decimal_tags : DecimalTags
-decimal_tags tags some few =
-    let small : tags < 2 ^ 64 = omega arith in
-    let is = digits_value-decimal own tags small in
-    let numeral = numeral_from (decimal tags) (digits_decimal own tags small) (decimal_nonempty tags small) (one_digit tags small) in
-    let low = le-leb 1 (digits_value 10 (decimal tags)) (omega (arith, is)) in
-    let high = le-leb (digits_value 10 (decimal tags)) 256 (omega (arith, is)) in
-    ap (λ (b : Bool). cond b (Some (digits_value 10 (decimal tags))) None)
-    (and_from (is_numeral (decimal tags) && nat_le 1 (digits_value 10 (decimal tags))) (nat_le (digits_value 10 (decimal tags)) 256)
-    (and_from (is_numeral (decimal tags)) (nat_le 1 (digits_value 10 (decimal tags))) numeral low) high)
-    ∙ ap (λ (n : ℕ). Some n) is
+pub decimal_tags : NumeralsTellNumbers → DecimalTags
+decimal_tags numerals tags some few =
+    ap tags_within ((numerals (decimal tags) tags).1 (omega arith, refl))
+    ∙ ap (λ (b : Bool). cond b (Some tags) None) (and_from (nat_le 1 tags) (nat_le tags 256) (le-leb 1 tags some) (le-leb tags 256 few))

@@ -1,11 +1,10 @@
 -- The attributes of a statement: the last pair of a key counts.
-use Rattle.std.specs.Prelude.{ℕ, ◌^◌, Bool, not, ◌&&◌, nat_le, nat_lt, List, [], ◌∷◌, length, filter, reverse, Option, Some, None, bytes_eq, codes, if◌then◌else◌}
+use Rattle.std.specs.Prelude.{ℕ, not, ◌&&◌, nat_le, List, [], ◌∷◌, filter, reverse, Option, Some, None, bytes_eq, codes, if◌then◌else◌}
 use Rattle.std.specs.Option.{option_or}
-use Rattle.std.specs.List.{list_all}
 use Rattle.std.specs.Char.{is_ascii_digit, is_ascii_hexdigit}
-use Rattle.std.specs.Str.Parse.{digits_value}
 use Rattle.std.specs.FinMap as map
-use Rattle.port_types.specs.PortGrammar.{is_numeral, text_behind}
+use Rattle.port_types.specs.Numeral.{digits_of, numeral_value}
+use Rattle.port_types.specs.PortGrammar.{text_behind}
 use Rattle.graph_core.specs.declared.kind.Kind.{Kind}
 use Rattle.graph_core.specs.Name.{name_cmp}
 use Rattle.graph_core.specs.Node.{is_owned}
@@ -22,14 +21,6 @@ last_value key (pair ∷ pairs) = option_or (last_value key pairs) (if bytes_eq 
 abbrev pub kept_of : Kind → List Pair → map.FinMap name_cmp (List ℕ)
 kept_of kind pairs = map.from_entries (filter (λ pair. not (is_owned kind pair.0)) (reverse pairs))
 
--- the number, where it is below 2 ^ 64
-abbrev pub in_word : ℕ → Option ℕ
-in_word number = if nat_lt number (2 ^ 64) then Some number else None
-
--- digits of this base, at least one
-abbrev pub digits_of : (ℕ → Bool) → ℕ → List ℕ → Option ℕ
-digits_of is_digit base digits = if nat_le 1 (length digits) && list_all is_digit digits then in_word (digits_value base digits) else None
-
 abbrev pub value_behind : Option (List ℕ) → List ℕ → Option ℕ
 value_behind None text = digits_of is_ascii_digit 10 text
 value_behind (Some digits) text = digits_of is_ascii_hexdigit 16 digits
@@ -38,6 +29,10 @@ value_behind (Some digits) text = digits_of is_ascii_hexdigit 16 digits
 abbrev pub value_of : List ℕ → Option ℕ
 value_of text = value_behind (text_behind (codes "0x") text) text
 
+abbrev pub tags_within : Option ℕ → Option ℕ
+tags_within None = None
+tags_within (Some tags) = if nat_le 1 tags && nat_le tags 256 then Some tags else None
+
 -- a number of tags: decimal from 1 to 256, without leading zeros
 abbrev pub tags_of : List ℕ → Option ℕ
-tags_of text = if is_numeral text && nat_le 1 (digits_value 10 text) && nat_le (digits_value 10 text) 256 then Some (digits_value 10 text) else None
+tags_of text = tags_within (numeral_value text)

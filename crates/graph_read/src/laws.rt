@@ -2,7 +2,7 @@ ghost use Rattle.graph_read.specs.Laws.{RowsAreMet, RowsReadBack, DecimalValues,
 ghost use Rattle.graph_read.specs.GraphLaws.{ReadIsTyped, ReadHasAllowedNames, ReadHasNoPure};
 
 use op_table::tests_are_the_table;
-use port_types::reads_ports;
+use port_types::{numerals_tell_numbers, reads_ports};
 
 /// A kind is read from ports and attributes exactly where it meets its row of the table of ports with them.
 pub fn rows_are_met()
@@ -23,7 +23,9 @@ pub fn numbers_read_back()
     ensures decimal { DecimalValues }
     ensures hexadecimal { HexadecimalValues }
     ensures tags { DecimalTags }
-{}
+{
+    numerals_tell_numbers();
+}
 
 /// A graph that is read is typed and within the limits, its names are allowed where the document's texts are UTF-8, and no node of
 /// its document applies a function.

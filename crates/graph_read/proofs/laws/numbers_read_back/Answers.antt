@@ -8,4 +8,4 @@ pub returns-clause-hexadecimal : goal.returns-clause-hexadecimal
 returns-clause-hexadecimal c = hexadecimal_values
 
 pub returns-clause-tags : goal.returns-clause-tags
-returns-clause-tags c = decimal_tags
+returns-clause-tags c = decimal_tags c.numerals_tell_numbers.ensures
