@@ -13,8 +13,6 @@ mod fields;
 mod graph;
 mod kept;
 mod kind;
-#[cfg(test)]
-mod kind_tests;
 mod laws;
 mod name;
 mod names;
@@ -23,8 +21,6 @@ mod owned;
 mod place;
 mod port_shapes;
 mod same;
-#[cfg(test)]
-mod same_tests;
 mod slots;
 #[cfg(test)]
 mod tests;
