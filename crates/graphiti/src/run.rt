@@ -81,6 +81,19 @@ pub fn run<S: Source, O: Sink, E: Sink>(
     status
 }
 
+/// What the program does where there is no memory for the words of the command line: it reads nothing, writes no answer, and writes the
+/// line of `NoMemory` to `err`; a fault there changes nothing.
+pub fn end_without_words<E: Sink>(err: &mut E) -> Status
+    ensures status { result ≡ Status.NoMemory }
+    ensures line { WritesFrontOf (line_of Status.NoMemory) (E.taken err.old) (E.taken err.new) }
+    ensures whole_line { ¬ (Rose (E.faults err.old) (E.faults err.new)) → E.taken err.new ≡ after (E.taken err.old) (line_of Status.NoMemory) }
+    ensures counts { E.faults err.old ≤ E.faults err.new }
+{
+    let status = Status::NoMemory;
+    write_line(err, &status);
+    status
+}
+
 /// The status of a run, before its line is written.
 fn answer<S: Source, O: Sink>(alloc: Global, words: &[String], src: &mut S, out: &mut O) -> Status
     ensures done { result ≡ Status.Done → Answers (command_in words.now) (S.left src.old) (S.left src.new) (O.taken out.old) (O.taken out.new) }
