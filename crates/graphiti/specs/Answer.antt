@@ -12,7 +12,7 @@ use Rattle.graphiti.specs.declared.words.Command.{Command}
 use Rattle.graphiti.specs.declared.words.Command.TheVariants.{Print, Strip, Later}
 use Rattle.graphiti.specs.Words.{command_of}
 use Rattle.graph_print.specs.CanonicalText.{text_of}
-use Rattle.graphiti.specs.Stripped.{IsStripped}
+use Rattle.graphiti.specs.Stripped.{IsStripped, OnlyRingsAreLeft}
 use Rattle.graph_read.specs.declared.fault.GraphRefusal.{GraphRefusal}
 use Rattle.graph_read.specs.GraphReading.{graph_reading}
 use Rattle.graph_read.specs.Pure.{has_pure}
@@ -71,10 +71,11 @@ pub record ReadsRefused (status : Status) (old new : Option (List ℕ)) : Type 0
   pub reads : ReadsInput input old new
   pub refused : IsRefused input status
 
--- the answer is the text of the stripped graph, which refines the graph and drains what it drains
+-- the answer is the text of the stripped graph, in which each Buffer is wired to itself, and which refines the graph and drains what it drains
 pub record IsTextOfStripped (g : NamedGraph) (answer : List ℕ) : Type 0 where
   pub stripped : NamedGraph
   pub is_stripped : IsStripped g stripped
+  pub rings : OnlyRingsAreLeft stripped
   pub refines : Refines (circuit_of stripped) (circuit_of g)
   pub drains : KeepsDrains stripped g
   pub text : answer ≡ text_of stripped

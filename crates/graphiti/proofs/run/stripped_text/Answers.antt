@@ -6,6 +6,7 @@ returns c =
     record {
       stripped = named_graph c.in_ok-stripped.stripped;
       is_stripped = c.in_ok-stripped.ensures.stripped;
+      rings = c.in_ok-stripped.ensures.rings;
       refines = c.in_ok-stripped.ensures.refines;
       drains = c.in_ok-stripped.ensures.drains;
       text = c.in_ok-text.ensures;
