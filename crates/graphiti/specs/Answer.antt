@@ -11,13 +11,13 @@ use Rattle.graphiti.specs.declared.status.Status.TheVariants.{Syntax, TooLong, G
 use Rattle.graphiti.specs.declared.words.Command.{Command}
 use Rattle.graphiti.specs.declared.words.Command.TheVariants.{Print, Strip, Later}
 use Rattle.graphiti.specs.Words.{command_of}
-use Rattle.graph_print.specs.CanonicalText.{text_of}
 use Rattle.graphiti.specs.Stripped.{IsStripped, OnlyRingsAreLeft}
 use Rattle.graph_read.specs.declared.fault.GraphRefusal.{GraphRefusal}
 use Rattle.graph_read.specs.GraphReading.{graph_reading}
 use Rattle.graph_read.specs.Pure.{has_pure}
 use Rattle.graphiti.specs.Input.{FaultAt, IsInputOf, IsGraphFault, IsNotYet}
 use Rattle.graphiti.specs.Behaviour.{KeepsDrains}
+use Rattle.graphiti.specs.ReadBack.{IsTextOf}
 
 -- the most bytes of an input
 abbrev pub max_input : ℕ
@@ -78,11 +78,11 @@ pub record IsTextOfStripped (g : NamedGraph) (answer : List ℕ) : Type 0 where
   pub rings : OnlyRingsAreLeft stripped
   pub refines : Refines (circuit_of stripped) (circuit_of g)
   pub drains : KeepsDrains stripped g
-  pub text : answer ≡ text_of stripped
+  pub text : IsTextOf stripped answer
 
--- the command's answer for a graph
+-- the command's answer for a graph: its text, or that of its stripped graph
 abbrev pub IsAnswer : Command → NamedGraph → List ℕ → Type 0
-IsAnswer Print g answer = answer ≡ text_of g
+IsAnswer Print g answer = IsTextOf g answer
 IsAnswer Strip g answer = IsTextOfStripped g answer
 IsAnswer Later g answer = ⊥
 
