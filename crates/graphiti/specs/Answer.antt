@@ -7,7 +7,7 @@ use Rattle.graph_core.specs.NamedGraph.{NamedGraph}
 use Rattle.module_sem.specs.Circuit.{circuit_of}
 use Rattle.module_sem.specs.Refines.{Refines}
 use Rattle.graphiti.specs.declared.status.Status.{Status}
-use Rattle.graphiti.specs.declared.status.Status.TheVariants.{Syntax, TooLong, Graph, NoMemory, NotYet}
+use Rattle.graphiti.specs.declared.status.Status.TheVariants.{Done, Usage, Syntax, TooLong, Graph, ReadFault, WriteFault, NoMemory, NotYet}
 use Rattle.graphiti.specs.declared.words.Command.{Command}
 use Rattle.graphiti.specs.declared.words.Command.TheVariants.{Print, Strip, Later}
 use Rattle.graphiti.specs.Words.{command_of}
@@ -63,7 +63,12 @@ abbrev pub IsDocumentRefused : Doc → Status → Type 0
 IsDocumentRefused document NotYet = IsTrue (has_pure document)
 IsDocumentRefused document (Graph refusal) = (has_pure document ≡ false) × (graph_reading document ≡ Err refusal)
 IsDocumentRefused document NoMemory = Unit {0}
-IsDocumentRefused document _ = ⊥
+IsDocumentRefused document Done = ⊥
+IsDocumentRefused document Usage = ⊥
+IsDocumentRefused document (Syntax at) = ⊥
+IsDocumentRefused document TooLong = ⊥
+IsDocumentRefused document ReadFault = ⊥
+IsDocumentRefused document WriteFault = ⊥
 
 -- the input was read to its end, and is refused with this status
 pub record ReadsRefused (status : Status) (old new : Option (List ℕ)) : Type 0 where
