@@ -1,5 +1,6 @@
 -- A typed graph without one of its Buffers.
 use Rattle.std.proofs.Common.{◌≡◌, ◌≢◌, ◌⊎◌, ℕ, zero, suc, Bool, true, false, cond, not, ◌||◌, inl, inr, refl, sym, ap, subst, ◌∙◌, [], ◌∷◌, Option, Some, None, IsSomeAnd, bytes_eq, true≢false}
+use Rattle.std.proofs.lemmas.Bool.{not-true, not_from_false, or_from, or_parts}
 use Rattle.std.proofs.lemmas.Option.{none-some, same_Some}
 use Rattle.std.specs.FinMap as map
 use Rattle.graph_core.specs.declared.kind.Kind.{Kind}
@@ -101,14 +102,6 @@ pub record Bypasses (g : NamedGraph) (b : Name) (h : NamedGraph) : Type 0 where
 pub node_other : {g : NamedGraph} {b : Name} {h : NamedGraph} → Bypasses g b h → (name : Name) (body : Body) → map.get h.nodes name ≡ Some body → name ≢ b
 node_other {h = h} past name body found is = none-some body (sym past.node_gone ∙ ap (map.get h.nodes) (sym is) ∙ found)
 
-pub neither : (a b : Bool) → not (a || b) ≡ true → (a ≡ false) × (b ≡ false)
-neither true b e = absurd (true≢false (sym e))
-neither false true e = absurd (true≢false (sym e))
-neither false false e = (refl, refl)
-
-not_either : (a b : Bool) → a ≡ false → b ≡ false → not (a || b) ≡ true
-not_either a b e f = ap (λ t. not (t || b)) e ∙ ap not f
-
 module _ (g : NamedGraph) (typed : IsTyped g) (b : Name) (h : NamedGraph) (drop : Drops g b h) where
   is_far : Port → Bool
   is_far p = not (is_of b (Some p) || is_of b (map.get g.feeders p))
@@ -137,13 +130,13 @@ module _ (g : NamedGraph) (typed : IsTyped g) (b : Name) (h : NamedGraph) (drop 
   unfolding is_far
   kept p q other_p other_q wired =
       let apart : p ≢ drop.target = λ is. other_q (ap (λ (z : Port). z.node) (same_Some q (first_port b) (sym wired ∙ ap (map.get g.feeders) is ∙ drop.feeds))) in
-      let far : is_far p ≡ true = not_either (is_of b (Some p)) (is_of b (map.get g.feeders p)) (other_bytes p.node b other_p) (ap (is_of b) wired ∙ other_bytes q.node b other_q) in
+      let far : is_far p ≡ true = not_from_false (is_of b (Some p) || is_of b (map.get g.feeders p)) (or_from (is_of b (Some p)) (is_of b (map.get g.feeders p)) (other_bytes p.node b other_p) (ap (is_of b) wired ∙ other_bytes q.node b other_q)) in
       feeder_after p apart ∙ ap (λ t. cond t (map.get g.feeders p) None) far ∙ wired
 
   from_far : (p q : Port) → (is_far p ≡ true) × (map.get g.feeders p ≡ Some q) → (p.node ≢ b) × (q.node ≢ b)
   unfolding is_far
   from_far p q far =
-      let tests = neither (is_of b (Some p)) (is_of b (map.get g.feeders p)) far.0 in
+      let tests = or_parts (is_of b (Some p)) (is_of b (map.get g.feeders p)) (not-true (is_of b (Some p) || is_of b (map.get g.feeders p)) far.0) in
       (other_name p.node tests.0, other_name q.node (sym (ap (is_of b) far.1) ∙ tests.1))
 
   comes_from : (p q : Port) → map.get h.feeders p ≡ Some q →

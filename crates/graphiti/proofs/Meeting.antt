@@ -7,7 +7,7 @@ use Rattle.std.specs.FinMap as map
 use Rattle.graph_core.specs.Name.{Name, Port, name_cmp}
 use Rattle.graph_core.specs.NamedGraph.{NamedGraph}
 use Rattle.module_sem.specs.Buffers.{first_port}
-use Rattle.graphiti.specs.Stripped.{IsBuffer, Meets, Meets.feeds, Meets.beyond, IsLastOfRing, Stays, FeedsStripped, IsStripped}
+use Rattle.graphiti.specs.Stripped.{IsBuffer, FeedsItself, Meets, Meets.feeds, Meets.beyond, IsLastOfRing, Stays, FeedsStripped, IsStripped}
 use Rattle.graphiti.proofs.Lookups.{name_total, name_same, name_cases}
 use Rattle.graphiti.proofs.Dropping.{Bypasses, node_other, same_buffer, buffer_at}
 
@@ -22,10 +22,6 @@ meets_from g target found source wired (inr past) = beyond target source past.0 
 pub met_from : (g : NamedGraph) (target source : Port) → Meets g target source → (found : Port) × (map.get g.feeders target ≡ Some found) × Reaches g found source
 met_from g _ _ (feeds target source wired) = (source, wired, inl refl)
 met_from g _ _ (beyond target source buffer wired is rest) = (first_port buffer, wired, inr (buffer, refl, is, rest))
-
--- wired to itself, where it is a Buffer
-abbrev pub FeedsItself : NamedGraph → Name → Type 0
-FeedsItself g name = map.get g.feeders (first_port name) ≡ Some (first_port name)
 
 met_by_itself : (g : NamedGraph) (name : Name) → FeedsItself g name → (target source : Port) → Meets g target source → target ≡ first_port name → source ≡ first_port name
 met_by_itself g name itself _ _ (feeds target source wired) is = same_Some source (first_port name) (sym wired ∙ ap (map.get g.feeders) is ∙ itself)

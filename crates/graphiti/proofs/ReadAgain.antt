@@ -1,12 +1,14 @@
 -- What is printed of a graph that was read can be read again.
-use Rattle.std.proofs.Common.{sym, ap, ◌∙◌}
+use Rattle.std.proofs.Common.{◌≡◌, ℕ, List, sym, ap, subst, ◌∙◌}
 use Rattle.dot_text.specs.Laws.{OneDocument, StandingPrints, StandingIsUtf8}
+use Rattle.graph_core.specs.NamedGraph.{NamedGraph}
 use Rattle.graph_print.specs.CanonicalText.{text_of}
 use Rattle.graph_read.specs.GraphReading.{graph_reading}
 use Rattle.graph_read.specs.GraphLaws.{ReadIsTyped, ReadHasAllowedNames}
 use Rattle.graphiti.specs.CanonicalReading.{ReadFits}
 use Rattle.graphiti.specs.CanonicalTexts.{ReadTexts}
-use Rattle.graphiti.specs.ReadBack.{TextReadsBack, ReadCanBeRead, PrintReadsBack, InputIsOneGraph, PrintOfPrint}
+use Rattle.graphiti.specs.Input.{IsInputOf}
+use Rattle.graphiti.specs.ReadBack.{CanBeRead, IsTextOf, TextReadsBack, ReadCanBeRead, PrintReadsBack, InputIsOneGraph, PrintOfPrint}
 use Rattle.graphiti.proofs.ReadNodes.{same_answer}
 
 pub read_can_be_read : StandingPrints → StandingIsUtf8 → ReadIsTyped → ReadHasAllowedNames → ReadFits → ReadTexts → ReadCanBeRead
@@ -33,3 +35,8 @@ input_is_one_graph one_document g h bytes a b =
 
 pub print_of_print : PrintReadsBack → InputIsOneGraph → PrintOfPrint
 print_of_print back one g h bytes input again = ap text_of (one h g (text_of g) again (back g bytes input))
+
+pub is_text_of : TextReadsBack → InputIsOneGraph → (g : NamedGraph) (text : List ℕ) → CanBeRead g → text ≡ text_of g → IsTextOf g text
+is_text_of back one g text can is =
+    let input = subst (IsInputOf g) (sym is) (back g can) in
+    record { is = is; back = input; alone = λ other again. one other g text again input }

@@ -7,12 +7,12 @@ use Rattle.std.specs.FinMap.Entries.{below_all}
 use Rattle.graph_core.specs.Name.{Name, Port, name_cmp}
 use Rattle.graph_core.specs.NamedGraph.{NamedGraph, IsTyped}
 use Rattle.module_sem.specs.Buffers.{first_port}
-use Rattle.graphiti.specs.Stripped.{IsBuffer, Meets.feeds, IsLastOfRing, FeedsStripped, IsStripped}
+use Rattle.graphiti.specs.Stripped.{IsBuffer, FeedsItself, Meets.feeds, IsLastOfRing, FeedsStripped, IsStripped, OnlyRingsAreLeft}
 use Rattle.graphiti.specs.Strips.{StaysAtTurn, Turns}
 use Rattle.graphiti.proofs.EntryLists.{first, second, less}
 use Rattle.graphiti.proofs.Lookups.{name_total, name_same, name_cases, other_test}
 use Rattle.graphiti.proofs.Dropping.{Bypasses, buffer_at, buffer_cases, buffer_input, buffer_output, drops_bypasses, typed_after}
-use Rattle.graphiti.proofs.Meeting.{FeedsItself, LesserFeedThemselves, met_from, Reaches, itself_alone, not_less_itself, not_less_back, buffer_before, buffer_other, stripped_before}
+use Rattle.graphiti.proofs.Meeting.{LesserFeedThemselves, met_from, Reaches, itself_alone, not_less_itself, not_less_back, buffer_before, buffer_other, stripped_before}
 
 abbrev pub IsAmong : Name → List Name → Type 0
 IsAmong name [] = ⊥
@@ -54,7 +54,7 @@ Await g names = (name : Name) → IsBuffer g name → FeedsItself g name ⊎ IsA
 pub await_keys : (g : NamedGraph) → Await g (fin.keys g.nodes)
 await_keys g name is = let at = buffer_at g name is in inr (key_among g.nodes name at.body at.is)
 
-module _ (g : NamedGraph) (typed : IsTyped g) (all : (name : Name) → IsBuffer g name → FeedsItself g name) where
+module _ (g : NamedGraph) (typed : IsTyped g) (all : OnlyRingsAreLeft g) where
   itself_last : (name : Name) → IsBuffer g name → IsLastOfRing g name
   itself_last name is =
       record {
@@ -130,7 +130,7 @@ module _ (g : NamedGraph) (b : Name) (names : List Name) (await : Await g (b ∷
 
 pub turns_from : (names : List Name) (g h : NamedGraph) → IsTyped g → Rise names → Await g names → Turns g names h → IsStripped g h × IsTyped h
 turns_from [] g h typed rise await is =
-    let all : (name : Name) → IsBuffer g name → FeedsItself g name = λ name buffer. elim (await name buffer) [ inl itself ↦ itself | inr among ↦ absurd among ] in
+    let all : OnlyRingsAreLeft g = λ name buffer. elim (await name buffer) [ inl itself ↦ itself | inr among ↦ absurd among ] in
     subst (λ z. IsStripped g z × IsTyped z) is (stripped_itself g typed all, typed)
 turns_from (b ∷ names) g h typed rise await turns =
     elim (turns.1) [

@@ -7,17 +7,17 @@ use Rattle.graph_core.specs.NamedGraph.{NamedGraph}
 use Rattle.module_sem.specs.Circuit.{circuit_of}
 use Rattle.module_sem.specs.Refines.{Refines}
 use Rattle.graphiti.specs.declared.status.Status.{Status}
-use Rattle.graphiti.specs.declared.status.Status.TheVariants.{Syntax, TooLong, Graph, NoMemory, NotYet}
+use Rattle.graphiti.specs.declared.status.Status.TheVariants.{Done, Usage, Syntax, TooLong, Graph, ReadFault, WriteFault, NoMemory, NotYet}
 use Rattle.graphiti.specs.declared.words.Command.{Command}
 use Rattle.graphiti.specs.declared.words.Command.TheVariants.{Print, Strip, Later}
 use Rattle.graphiti.specs.Words.{command_of}
-use Rattle.graph_print.specs.CanonicalText.{text_of}
-use Rattle.graphiti.specs.Stripped.{IsStripped}
+use Rattle.graphiti.specs.Stripped.{IsStripped, OnlyRingsAreLeft}
 use Rattle.graph_read.specs.declared.fault.GraphRefusal.{GraphRefusal}
 use Rattle.graph_read.specs.GraphReading.{graph_reading}
 use Rattle.graph_read.specs.Pure.{has_pure}
 use Rattle.graphiti.specs.Input.{FaultAt, IsInputOf, IsGraphFault, IsNotYet}
 use Rattle.graphiti.specs.Behaviour.{KeepsDrains}
+use Rattle.graphiti.specs.ReadBack.{IsTextOf}
 
 -- the most bytes of an input
 abbrev pub max_input : ℕ
@@ -63,7 +63,12 @@ abbrev pub IsDocumentRefused : Doc → Status → Type 0
 IsDocumentRefused document NotYet = IsTrue (has_pure document)
 IsDocumentRefused document (Graph refusal) = (has_pure document ≡ false) × (graph_reading document ≡ Err refusal)
 IsDocumentRefused document NoMemory = Unit {0}
-IsDocumentRefused document _ = ⊥
+IsDocumentRefused document Done = ⊥
+IsDocumentRefused document Usage = ⊥
+IsDocumentRefused document (Syntax at) = ⊥
+IsDocumentRefused document TooLong = ⊥
+IsDocumentRefused document ReadFault = ⊥
+IsDocumentRefused document WriteFault = ⊥
 
 -- the input was read to its end, and is refused with this status
 pub record ReadsRefused (status : Status) (old new : Option (List ℕ)) : Type 0 where
@@ -71,17 +76,18 @@ pub record ReadsRefused (status : Status) (old new : Option (List ℕ)) : Type 0
   pub reads : ReadsInput input old new
   pub refused : IsRefused input status
 
--- the answer is the text of the stripped graph, which refines the graph and drains what it drains
+-- the answer is the text of the stripped graph, in which each Buffer is wired to itself, and which refines the graph and drains what it drains
 pub record IsTextOfStripped (g : NamedGraph) (answer : List ℕ) : Type 0 where
   pub stripped : NamedGraph
   pub is_stripped : IsStripped g stripped
+  pub rings : OnlyRingsAreLeft stripped
   pub refines : Refines (circuit_of stripped) (circuit_of g)
   pub drains : KeepsDrains stripped g
-  pub text : answer ≡ text_of stripped
+  pub text : IsTextOf stripped answer
 
--- the command's answer for a graph
+-- the command's answer for a graph: its text, or that of its stripped graph
 abbrev pub IsAnswer : Command → NamedGraph → List ℕ → Type 0
-IsAnswer Print g answer = answer ≡ text_of g
+IsAnswer Print g answer = IsTextOf g answer
 IsAnswer Strip g answer = IsTextOfStripped g answer
 IsAnswer Later g answer = ⊥
 

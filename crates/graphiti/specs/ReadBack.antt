@@ -19,6 +19,12 @@ pub record CanBeRead (g : NamedGraph) : Type 0 where
 abbrev pub TextReadsBack : Type 0
 TextReadsBack = (g : NamedGraph) → CanBeRead g → IsInputOf g (text_of g)
 
+-- the canonical text of a graph, which is an input of this graph and of no other
+pub record IsTextOf (g : NamedGraph) (text : List ℕ) : Type 0 where
+  pub is : text ≡ text_of g
+  pub back : IsInputOf g text
+  pub alone : (other : NamedGraph) → IsInputOf other text → other ≡ g
+
 -- a graph that was read is within the limits: its kept texts stood in a document, so they can be written
 abbrev pub ReadCanBeRead : Type 0
 ReadCanBeRead = (g : NamedGraph) (bytes : List ℕ) → IsInputOf g bytes → CanBeRead g

@@ -1,6 +1,7 @@
 -- What each status is to whoever ran the program.
 use Rattle.std.specs.Prelude.{ℕ, Bool, true, false, List, [], ◌++◌, Option, Some, None, codes, if◌then◌else◌}
 use Rattle.std.specs.Fmt.{decimal}
+use Rattle.dot_text.specs.Printing.{in_quotes}
 use Rattle.port_types.specs.declared.side.Side.{Side}
 use Rattle.port_types.specs.PortText.{port_name}
 use Rattle.graph_read.specs.declared.fault.GraphFaultKind.{GraphFaultKind}
@@ -41,17 +42,25 @@ fault_word PortOpen = codes "PortOpen"
 
 -- it is told of an edge
 abbrev pub is_of_edge : GraphFaultKind → Bool
+is_of_edge BadName = false
+is_of_edge NameTaken = false
+is_of_edge NoKind = false
+is_of_edge UnknownKind = false
+is_of_edge MemoryNode = false
+is_of_edge MemoryPort = false
+is_of_edge BadPorts = false
+is_of_edge BadOp = false
+is_of_edge BadValue = false
+is_of_edge BadFun = false
+is_of_edge BadTags = false
+is_of_edge TooMany = false
 is_of_edge UnknownNode = true
 is_of_edge UnknownPort = true
 is_of_edge PortTaken = true
 is_of_edge ShapeDiffers = true
-is_of_edge _ = false
+is_of_edge PortOpen = false
 
--- a name between double quotes, as its bytes
-abbrev pub in_quotes : List ℕ → List ℕ
-in_quotes name = codes "\"" ++ name ++ codes "\""
-
--- a port by its node and its own name, an edge by its place, or a node by its name
+-- a port by its node and its own name, an edge by its place, or a node by its name; names are written as their bytes
 abbrev pub refusal_text : GraphFaultKind → ℕ → List ℕ → Option (Side × ℕ) → List ℕ
 refusal_text kind place name (Some port) = fault_word kind ++ codes " " ++ in_quotes name ++ codes " " ++ port_name port.0 port.1
 refusal_text kind place name None =

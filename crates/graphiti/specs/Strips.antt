@@ -4,7 +4,7 @@ use Rattle.std.specs.FinMap as map
 use Rattle.graph_core.specs.Name.{Name, Port}
 use Rattle.graph_core.specs.NamedGraph.{NamedGraph, IsTyped, with_wire, without_node}
 use Rattle.module_sem.specs.Buffers.{first_port}
-use Rattle.graphiti.specs.Stripped.{IsBuffer, IsStripped}
+use Rattle.graphiti.specs.Stripped.{IsBuffer, FeedsItself, IsStripped}
 
 -- without a Buffer that is not wired to itself, what fed it feeds what it fed
 pub record Drops (g : NamedGraph) (name : Name) (h : NamedGraph) : Type 0 where
@@ -18,7 +18,7 @@ pub record Drops (g : NamedGraph) (name : Name) (h : NamedGraph) : Type 0 where
 
 -- it is no Buffer, or is wired to itself
 abbrev pub StaysAtTurn : NamedGraph → Name → Type 0
-StaysAtTurn g name = ¬ (IsBuffer g name) ⊎ (map.get g.feeders (first_port name) ≡ Some (first_port name))
+StaysAtTurn g name = ¬ (IsBuffer g name) ⊎ FeedsItself g name
 
 -- the turn of one node
 abbrev pub Turn : NamedGraph → Name → NamedGraph → Type 0

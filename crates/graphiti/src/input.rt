@@ -2,12 +2,13 @@
 ghost use Rattle.std.specs.Prelude.{◌≡◌, ◌≢◌, ℕ, ◌+◌, ◌≤◌, Ok, Err, IfOk, IfErr};
 ghost use Rattle.gx_base.specs.Stream.{Gave, Rose};
 ghost use Rattle.graph_core.specs.GraphValue.{named_graph};
-ghost use Rattle.graph_core.specs.NamedGraph.{IsTyped};
 ghost use Rattle.graph_read.specs.declared.fault.GraphRefusal.{GraphRefusal};
 ghost use Rattle.graph_read.specs.GraphReading.{graph_reading};
+ghost use Rattle.graphiti.specs.ReadBack.{CanBeRead};
 ghost use Rattle.graphiti.specs.Input.{FaultAt, IsInputOf, IsGraphFault, IsNotYet};
 ghost use Rattle.graphiti.specs.Answer.{max_input, ReadsGraph, ReadsRefused, IsDocumentRefused};
 
+use crate::laws::read_texts_can_be_quoted;
 use crate::status::Status;
 use dot_text::{Doc, DocFault, read_doc, skip_blank};
 use graph_core::Graph;
@@ -21,7 +22,7 @@ const MAX_INPUT: usize = 16_777_216;
 /// Reads the input to its end and makes its graph. The error is the status of an input that is refused.
 pub(crate) fn read_graph<S: Source>(alloc: Global, src: &mut S) -> Result<Graph, Status>
     ensures graph { IfOk result (λ g. ReadsGraph (named_graph g) (S.left src.old) (S.left src.new)) }
-    ensures typed { IfOk result (λ g. IsTyped (named_graph g)) }
+    ensures can_be_read { IfOk result (λ g. CanBeRead (named_graph g)) }
     ensures other { result ≡ Err Status.NotYet → ReadsRefused Status.NotYet (S.left src.old) (S.left src.new) }
     ensures refused { (refusal : GraphRefusal) → result ≡ Err (Status.Graph refusal) → ReadsRefused (Status.Graph refusal) (S.left src.old) (S.left src.new) }
     ensures syntax { (at : ℕ) → result ≡ Err (Status.Syntax at) → ReadsRefused (Status.Syntax at) (S.left src.old) (S.left src.new) }
@@ -42,13 +43,14 @@ pub(crate) fn read_graph<S: Source>(alloc: Global, src: &mut S) -> Result<Graph,
 /// The graph of a whole input: its document is judged whole, and then what stands behind it.
 fn graph_in(alloc: Global, bytes: &[u8]) -> Result<Graph, Status>
     ensures graph { IfOk result (λ g. IsInputOf (named_graph g) bytes.now) }
-    ensures typed { IfOk result (λ g. IsTyped (named_graph g)) }
+    ensures can_be_read { IfOk result (λ g. CanBeRead (named_graph g)) }
     ensures other { result ≡ Err Status.NotYet → IsNotYet bytes.now }
     ensures refused { (refusal : GraphRefusal) → result ≡ Err (Status.Graph refusal) → IsGraphFault bytes.now refusal }
     ensures syntax { (at : ℕ) → result ≡ Err (Status.Syntax at) → FaultAt bytes.now at }
     ensures no_fault { (result ≢ Err Status.ReadFault) × (result ≢ Err Status.TooLong) }
     ensures no_other { (result ≢ Err Status.Done) × (result ≢ Err Status.Usage) × (result ≢ Err Status.WriteFault) }
 {
+    read_texts_can_be_quoted();
     let (document, end) = match read_doc(alloc, bytes, 0) {
         Ok(found) => found,
         Err(DocFault::Syntax(place)) => return Err(Status::Syntax(place)),
@@ -65,7 +67,6 @@ fn graph_in(alloc: Global, bytes: &[u8]) -> Result<Graph, Status>
 /// The graph of a document.
 fn graph_of_document(alloc: Global, document: &Doc) -> Result<Graph, Status>
     ensures graph { IfOk result (λ g. graph_reading document.now ≡ Ok (named_graph g)) }
-    ensures typed { IfOk result (λ g. IsTyped (named_graph g)) }
     ensures refused { IfErr result (IsDocumentRefused document.now) }
 {
     if has_pure(document) {

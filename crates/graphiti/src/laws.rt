@@ -2,7 +2,7 @@
 ghost use Rattle.graphiti.specs.CanonicalReading.{CanonicalReadsBack, ReadFits};
 ghost use Rattle.graphiti.specs.CanonicalTexts.{CanonicalPrints, ReadTexts};
 ghost use Rattle.graphiti.specs.ReadBack.{TextReadsBack, ReadCanBeRead, StrippedCanBeRead, PrintReadsBack, InputIsOneGraph, PrintOfPrint};
-ghost use Rattle.graphiti.specs.Stripped.{HasStripped, IsOneStripped};
+ghost use Rattle.graphiti.specs.Stripped.{HasStripped, IsOneStripped, StrippedLeavesRings};
 ghost use Rattle.graphiti.specs.Strips.{TurnsEnd, TurnsStrip};
 ghost use Rattle.graphiti.specs.Behaviour.{StrippedDrains, StrippedIsRefined, StrippedRefines, StrippedTyped};
 
@@ -84,6 +84,11 @@ pub fn print_of_print()
 pub fn one_stripped_graph()
     ensures some { HasStripped }
     ensures one { IsOneStripped }
+{}
+
+/// The stripped graph of a graph has no Buffer but those wired to themselves.
+pub fn only_rings_are_left()
+    ensures { StrippedLeavesRings }
 {}
 
 /// Each node of a typed graph can have its turn, and the turns of all in the order of their names strip it.

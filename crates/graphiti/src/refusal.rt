@@ -2,8 +2,9 @@
 ghost use Rattle.std.specs.Prelude.{◌≡◌, ◌++◌, ◌≤◌, codes, OnOk, OnErr};
 ghost use Rattle.std.specs.Fmt.{decimal};
 ghost use Rattle.gx_base.specs.Stream.{after, Rose};
+ghost use Rattle.dot_text.specs.Printing.{in_quotes};
 ghost use Rattle.port_types.specs.PortText.{port_name};
-ghost use Rattle.graphiti.specs.Status.{fault_word, is_of_edge, in_quotes, refusal_text};
+ghost use Rattle.graphiti.specs.Status.{fault_word, is_of_edge, refusal_text};
 ghost use Rattle.graphiti.specs.Answer.{WritesFrontOf};
 
 use crate::line::{write_around, write_number, write_piece};
@@ -120,11 +121,23 @@ fn fault_word(kind: GraphFaultKind) -> &'static str
 fn is_of_edge(kind: GraphFaultKind) -> bool
     ensures { result ≡ is_of_edge kind }
 {
-    matches!(
-        kind,
+    match kind {
         GraphFaultKind::UnknownNode
-            | GraphFaultKind::UnknownPort
-            | GraphFaultKind::PortTaken
-            | GraphFaultKind::ShapeDiffers
-    )
+        | GraphFaultKind::UnknownPort
+        | GraphFaultKind::PortTaken
+        | GraphFaultKind::ShapeDiffers => true,
+        GraphFaultKind::BadName
+        | GraphFaultKind::NameTaken
+        | GraphFaultKind::NoKind
+        | GraphFaultKind::UnknownKind
+        | GraphFaultKind::MemoryNode
+        | GraphFaultKind::MemoryPort
+        | GraphFaultKind::BadPorts
+        | GraphFaultKind::BadOp
+        | GraphFaultKind::BadValue
+        | GraphFaultKind::BadFun
+        | GraphFaultKind::BadTags
+        | GraphFaultKind::TooMany
+        | GraphFaultKind::PortOpen => false,
+    }
 }

@@ -1,15 +1,16 @@
 //! From the words of the command line and the streams to a status.
 ghost use Rattle.std.specs.Prelude.{◌≡◌, ◌≢◌, ℕ, ◌⊎◌, ◌+◌, ◌≤◌, ◌↔◌, None, Some, IfSome, IfOk, length};
 ghost use Rattle.gx_base.specs.Stream.{after, Gave, Rose};
-ghost use Rattle.graph_core.specs.NamedGraph.{IsTyped};
 ghost use Rattle.graph_core.specs.GraphValue.{named_graph};
 ghost use Rattle.graphiti.specs.declared.words.Command.TheVariants.{Later};
 ghost use Rattle.graphiti.specs.Status.{line_of};
 ghost use Rattle.graph_read.specs.declared.fault.GraphRefusal.{GraphRefusal};
 ghost use Rattle.graphiti.specs.Input.{IsGraphInput};
+ghost use Rattle.graphiti.specs.ReadBack.{CanBeRead, IsTextOf};
 ghost use Rattle.graphiti.specs.Answer.{max_input, command_in, Reads, ReadsRefused, IsRefused, IsAnswer, IsTextOfStripped, WritesAll, WritesFront, AnswersInput, AnswersFront, Answers, AnswersInPart, WritesFrontOf};
 
 use crate::input::read_graph;
+use crate::laws::{print_of_print, stripped_can_be_read, text_reads_back};
 use crate::line::write_line;
 use crate::status::Status;
 use crate::strip::strip;
@@ -32,7 +33,9 @@ pub fn run<S: Source, O: Sink, E: Sink>(
     out: &mut O,
     err: &mut E,
 ) -> Status
-    // The input was a document that is a graph, and `out` took the command's answer, all of it and nothing else; a stripped graph refines the one read.
+    // The input was a document that is a graph, and `out` took the command's answer, all of it and nothing else. What it took is an input of
+    // the graph that is printed and of no other; a stripped graph refines the one that was read, drains what it drains, and has no Buffers
+    // but those wired to themselves.
     ensures done { result ≡ Status.Done → Answers (command_in words.now) (S.left src.old) (S.left src.new) (O.taken out.old) (O.taken out.new) }
 
     // Wrong words are told before anything is read, and so are commands that do not run yet.
@@ -77,6 +80,19 @@ pub fn run<S: Source, O: Sink, E: Sink>(
     skipping_decides();
     read_graphs_are_typed();
     let status = answer(alloc, words, src, out);
+    write_line(err, &status);
+    status
+}
+
+/// What the program does where there is no memory for the words of the command line: it reads nothing, writes no answer, and writes the
+/// line of `NoMemory` to `err`; a fault there changes nothing.
+pub fn end_without_words<E: Sink>(err: &mut E) -> Status
+    ensures status { result ≡ Status.NoMemory }
+    ensures line { WritesFrontOf (line_of Status.NoMemory) (E.taken err.old) (E.taken err.new) }
+    ensures whole_line { ¬ (Rose (E.faults err.old) (E.faults err.new)) → E.taken err.new ≡ after (E.taken err.old) (line_of Status.NoMemory) }
+    ensures counts { E.faults err.old ≤ E.faults err.new }
+{
+    let status = Status::NoMemory;
     write_line(err, &status);
     status
 }
@@ -135,7 +151,7 @@ fn answer_input<S: Source, O: Sink>(
 /// Writes the command's answer for a graph.
 fn respond<O: Sink>(alloc: Global, command: Command, g: Graph, out: &mut O) -> Status
     requires reads { Reads (Some command) }
-    requires typed { IsTyped (named_graph g) }
+    requires can_be_read { CanBeRead (named_graph g) }
     ensures done { result ≡ Status.Done → WritesAll command (named_graph g) (O.taken out.old) (O.taken out.new) }
     ensures write_fault { result ≡ Status.WriteFault → Rose (O.faults out.old) (O.faults out.new)
         × WritesFront command (named_graph g) (O.taken out.old) (O.taken out.new) }
@@ -154,11 +170,11 @@ fn respond<O: Sink>(alloc: Global, command: Command, g: Graph, out: &mut O) -> S
 /// The text of the command's answer for a graph.
 fn answer_text(alloc: Global, command: Command, g: Graph) -> Result<Vec<u8>, NoMemory>
     requires reads { Reads (Some command) }
-    requires typed { IsTyped (named_graph g) }
+    requires can_be_read { CanBeRead (named_graph g) }
     ensures { IfOk result (λ text. IsAnswer command (named_graph g) text.items) }
 {
     match command {
-        Command::Print => text_of(alloc, &g),
+        Command::Print => text_read_back(alloc, &g),
         Command::Strip => stripped_text(alloc, g),
         Command::Later => unreachable!(),
     }
@@ -166,10 +182,22 @@ fn answer_text(alloc: Global, command: Command, g: Graph) -> Result<Vec<u8>, NoM
 
 /// The text of the stripped graph.
 fn stripped_text(alloc: Global, g: Graph) -> Result<Vec<u8>, NoMemory>
-    requires { IsTyped (named_graph g) }
+    requires { CanBeRead (named_graph g) }
     ensures { IfOk result (λ text. IsTextOfStripped (named_graph g) text.items) }
 {
+    stripped_can_be_read();
     let stripped = strip(alloc, g)?;
-    let text = text_of(alloc, &stripped)?;
+    let text = text_read_back(alloc, &stripped)?;
+    Ok(text)
+}
+
+/// The canonical text of a graph that can be read: it is an input of this graph and of no other.
+fn text_read_back(alloc: Global, g: &Graph) -> Result<Vec<u8>, NoMemory>
+    requires { CanBeRead (named_graph g.now) }
+    ensures { IfOk result (λ text. IsTextOf (named_graph g.now) text.items) }
+{
+    text_reads_back();
+    print_of_print();
+    let text = text_of(alloc, g)?;
     Ok(text)
 }

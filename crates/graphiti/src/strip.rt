@@ -6,12 +6,12 @@ ghost use Rattle.graph_core.specs.GraphValue.{named_graph, node_at};
 ghost use Rattle.module_sem.specs.Circuit.{circuit_of};
 ghost use Rattle.module_sem.specs.Refines.{Refines};
 ghost use Rattle.graphiti.specs.Behaviour.{KeepsDrains};
-ghost use Rattle.graphiti.specs.Stripped.{IsStripped};
+ghost use Rattle.graphiti.specs.Stripped.{IsStripped, OnlyRingsAreLeft};
 ghost use Rattle.graphiti.specs.Strips.{Drops, StaysAtTurn, Turn, Turns};
 ghost use Rattle.graphiti.specs.Bypass.{IsFedBuffer};
 ghost use Rattle.graph_core.specs.GraphValue.{AreInOrder};
 
-use crate::laws::{stripped_drains, stripped_refines};
+use crate::laws::{only_rings_are_left, stripped_drains, stripped_refines};
 use graph_core::{AddWire, Graph, Kind, NodeId, PortAt};
 use port_types::NoMemory;
 use std::alloc::Global;
@@ -22,10 +22,12 @@ use std::alloc::Global;
 pub fn strip(alloc: Global, mut g: Graph) -> Result<Graph, NoMemory>
     requires { IsTyped (named_graph g) }
     ensures stripped { IfOk result (λ stripped. IsStripped (named_graph g) (named_graph stripped)) }
+    ensures rings { IfOk result (λ stripped. OnlyRingsAreLeft (named_graph stripped)) }
     ensures typed { IfOk result (λ stripped. IsTyped (named_graph stripped)) }
     ensures refines { IfOk result (λ stripped. Refines (circuit_of (named_graph stripped)) (circuit_of (named_graph g))) }
     ensures drains { IfOk result (λ stripped. KeepsDrains (named_graph stripped) (named_graph g)) }
 {
+    only_rings_are_left();
     stripped_refines();
     stripped_drains();
     let ids = g.by_name(alloc)?;

@@ -1,8 +1,8 @@
-use Rattle.std.proofs.Common.{subst, arith}
+use Rattle.std.proofs.Common.{◌≡◌, length, subst, arith, rules}
 use Rattle.std.proofs.lemmas.Bool.Decides.{nat_tests}
 use Rattle.graph_core.specs.GraphValue.{named_graph}
 use Rattle.graphiti.specs.Input.{FaultAt, unclosed}
-use Rattle.graphiti.proofs.Faults.{more_follows}
+use Rattle.graphiti.proofs.Faults.{more_follows, nothing_follows}
 use Rattle.graphiti.proofs.input.graph_in.Goals as goal
 
 pub returns-in-Ok-2-clause-syntax : goal.returns-in-Ok-2-clause-syntax
@@ -15,3 +15,9 @@ returns-in-Ok-2-clause-syntax c at e =
 pub returns-clause-syntax : goal.returns-clause-syntax
 returns-clause-syntax c at e =
     subst (FaultAt c.args.bytes.now) (cc e) (unclosed c.in-Ok.found.0 (named_graph c.in_ok-g.g) c.in-Ok.found.1 c.in-Ok.ensures.found c.in_ok-g.ensures.graph c.in-Err.ensures)
+
+pub returns-in-Ok-skip_blank-clause-can_be_read : goal.returns-in-Ok-skip_blank-clause-can_be_read
+returns-in-Ok-skip_blank-clause-can_be_read c =
+    let at_end : c.in-Ok-skip_blank.place ≡ length c.args.bytes.now = search rules in
+    c.read_texts_can_be_quoted.ensures (named_graph c.in_ok-g.g) c.args.bytes.now
+    (nothing_follows c.args.bytes.now c.in-Ok.found.0 (named_graph c.in_ok-g.g) c.in-Ok.found.1 c.in-Ok-skip_blank.place c.in-Ok.ensures.found c.in_ok-g.ensures.graph c.in-Ok-skip_blank.ensures at_end)

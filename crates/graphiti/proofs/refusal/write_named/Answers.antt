@@ -1,5 +1,5 @@
 use Rattle.std.proofs.Common.{codes}
-use Rattle.graphiti.specs.Status.{in_quotes}
+use Rattle.dot_text.specs.Printing.{in_quotes}
 use Rattle.graphiti.proofs.LinePieces.{first_of_three, second_of_three, third_of_three}
 use Rattle.graphiti.proofs.refusal.write_named.Goals as goal
 

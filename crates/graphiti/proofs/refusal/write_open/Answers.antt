@@ -1,6 +1,6 @@
 use Rattle.std.proofs.Common.{◌++◌, codes}
 use Rattle.port_types.specs.PortText.{port_name}
-use Rattle.graphiti.specs.Status.{in_quotes}
+use Rattle.dot_text.specs.Printing.{in_quotes}
 use Rattle.graphiti.proofs.LinePieces.{first_of_three, second_of_three, third_of_three}
 use Rattle.graphiti.proofs.refusal.write_open.Goals as goal
 

@@ -6,6 +6,10 @@ use Rattle.graphiti.proofs.strip.strip.Goals as goal
 pub returns-clause-stripped : goal.returns-clause-stripped
 returns-clause-stripped c = (turns_strip (named_graph c.args.g) (named_graph c.drop_buffers.new.g) c.requires c.in_ok-drop_buffers.ensures).0
 
+pub returns-clause-rings : goal.returns-clause-rings
+returns-clause-rings c =
+    c.only_rings_are_left.ensures (named_graph c.args.g) (named_graph c.drop_buffers.new.g) (turns_strip (named_graph c.args.g) (named_graph c.drop_buffers.new.g) c.requires c.in_ok-drop_buffers.ensures).0
+
 pub returns-clause-typed : goal.returns-clause-typed
 returns-clause-typed c = (turns_strip (named_graph c.args.g) (named_graph c.drop_buffers.new.g) c.requires c.in_ok-drop_buffers.ensures).1
 

@@ -1,0 +1,7 @@
+use Rattle.graph_core.specs.GraphValue.{named_graph}
+use Rattle.graphiti.proofs.ReadAgain.{is_text_of}
+use Rattle.graphiti.proofs.run.text_read_back.Goals as goal
+
+pub returns : goal.returns
+returns c =
+    is_text_of c.text_reads_back.ensures c.print_of_print.ensures.one (named_graph c.args.g.now) c.in_ok-text.text.items c.requires c.in_ok-text.ensures
