@@ -16,9 +16,13 @@ gap_within : {bytes : List ℕ} {p q : ℕ} → Gap bytes p q → p ≤ length b
 gap_within no_gap h = h
 gap_within {bytes = bytes} {p = p} (skip s g) h = gap_within g (omega (arith, s.ends, behind_at bytes s.text s.rest p h s.is))
 
-pub lexes_within : {bytes : List ℕ} {p q : ℕ} {ts : List Token} → Lexes bytes p ts q → p ≤ length bytes → q ≤ length bytes
+lexes_within : {bytes : List ℕ} {p q : ℕ} {ts : List Token} → Lexes bytes p ts q → p ≤ length bytes → q ≤ length bytes
 lexes_within no_token h = h
 lexes_within {bytes = bytes} (next {q = q} g a l) h = lexes_within l (omega (arith, a.ends, behind_at bytes a.text a.rest q (gap_within g h) a.is))
+
+-- a document ends within the bytes
+pub stands_within : (bytes : List ℕ) (from to : ℕ) (doc : Doc) → from ≤ length bytes → Stands bytes from doc to → to ≤ length bytes
+stands_within bytes from to doc h stands = lexes_within stands.lexes h
 
 -- a document that ends within the first bytes stands in them
 stands_below : (bytes more : List ℕ) (doc : Doc) (to : ℕ) → to ≤ length bytes → Stands (bytes ++ more) 0 doc to → Stands bytes 0 doc to
@@ -35,7 +39,7 @@ low_or a b h = elim (eqb_tells b (a + 1)) [ inl x ↦ inr x.1 | inr x ↦ inl (o
 pub ends_at_last : (taken : List ℕ) (b : ℕ) (reader : Scan) (found : Found) → reader_of taken ≡ Going reader → reader_of (taken ++ b ∷ []) ≡ Over (Ok found) → found.to ≡ length taken + 1
 ends_at_last taken b reader found e f =
     let st : Stands (taken ++ b ∷ []) 0 found.doc found.to = subst (λ z. Stands z 0 found.doc found.to) (append-nil (taken ++ b ∷ [])) (over_is (taken ++ b ∷ []) [] (Ok found) f) in
-    let within : found.to ≤ length (taken ++ b ∷ []) = lexes_within st.lexes (omega arith) in
+    let within : found.to ≤ length (taken ++ b ∷ []) = stands_within (taken ++ b ∷ []) 0 found.to found.doc (omega arith) st in
     elim (low_or (length taken) found.to (omega (arith, within, length-append taken (b ∷ [])))) [
       | inl low ↦ absurd (going_is taken reader e found.doc found.to (stands_below taken (b ∷ []) found.doc found.to low st))
       | inr at ↦ at

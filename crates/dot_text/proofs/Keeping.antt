@@ -16,7 +16,7 @@ edges_append [] ls = refl
 edges_append (Node a ps ∷ ks) ls = edges_append ks ls
 edges_append (Edge a b ps ∷ ks) ls = ap (λ z. record { source = a; target = b; pairs = ps } ∷ z) (edges_append ks ls)
 
-abbrev doc_from : List DocNode → List DocEdge → Doc
+abbrev pub doc_from : List DocNode → List DocEdge → Doc
 doc_from ns es = record { nodes = ns; edges = es }
 
 pub keep_nil : (d : Doc) → keep d [] ≡ d

@@ -5,7 +5,7 @@ use Rattle.dot_text.specs.Grammar.{Pair, Kept, PairEnd, PairEnd.nothing as no_ma
 use Rattle.dot_text.specs.declared.doc.Doc.{Doc}
 use Rattle.dot_text.specs.Documents.{doc_of, keep}
 use Rattle.dot_text.proofs.Keeping.{keep_nil, keep_append}
-use Rattle.dot_text.specs.Machine.{Owner, OfNode, OfEdge, OfDefault, State, Begin, Headed, Named, Ready, Ended, Word, Pointed, Setting, Bare, Listed, Inside, Keyed, Valued, Paired, Whole, kept_of, ready, ended, listed, inside, step, run}
+use Rattle.dot_text.specs.Machine.{Owner, OfNode, OfEdge, OfDefault, State, Begin, Headed, Named, Ready, Ended, Identified, Pointed, Setting, Defaulted, Listed, Inside, Keyed, Equated, Paired, Whole, kept_of, ready, ended, listed, inside, step, run}
 
 -- what completes a document from where a statement may begin, with k subgraphs open and l more allowed
 pub data Rest : ℕ → ℕ → List Token → List Kept → Type 0 where
@@ -20,16 +20,16 @@ pub data Left : State → List Token → Doc → Type 0 where
   at_named : {l k : ℕ} {d ks : Doc} {ts : List Token} → Left (Ready l k d) ts ks → Left (Named l k d) (Open ∷ ts) ks
   at_ready : {l k : ℕ} {d : Doc} {ks : List Kept} {ts : List Token} → Rest l k ts ks → Left (Ready l k d) ts (keep d ks)
   at_ended : {l k : ℕ} {d ks : Doc} {end ts : List Token} → End end → Left (Ready l k d) ts ks → Left (Ended l k d) (end ++ ts) ks
-  at_word : {l k : ℕ} {d ks : Doc} {a : List ℕ} {ts : List Token} → Left (Listed l k d (OfNode a) []) ts ks → Left (Word l k d a) ts ks
-  at_arrow : {l k : ℕ} {d ks : Doc} {a : List ℕ} {ts : List Token} → Left (Pointed l k d a) ts ks → Left (Word l k d a) (Arrow ∷ ts) ks
-  at_equals : {l k : ℕ} {d ks : Doc} {a : List ℕ} {ts : List Token} → Left (Setting l k d) ts ks → Left (Word l k d a) (Equals ∷ ts) ks
+  at_identified : {l k : ℕ} {d ks : Doc} {a : List ℕ} {ts : List Token} → Left (Listed l k d (OfNode a) []) ts ks → Left (Identified l k d a) ts ks
+  at_arrow : {l k : ℕ} {d ks : Doc} {a : List ℕ} {ts : List Token} → Left (Pointed l k d a) ts ks → Left (Identified l k d a) (Arrow ∷ ts) ks
+  at_equals : {l k : ℕ} {d ks : Doc} {a : List ℕ} {ts : List Token} → Left (Setting l k d) ts ks → Left (Identified l k d a) (Equals ∷ ts) ks
   at_pointed : {l k : ℕ} {d ks : Doc} {a b : List ℕ} {ts : List Token} → Left (Listed l k d (OfEdge a b) []) ts ks → Left (Pointed l k d a) (Id b ∷ ts) ks
   at_setting : {l k : ℕ} {d ks : Doc} {b : List ℕ} {ts : List Token} → Left (Ended l k d) ts ks → Left (Setting l k d) (Id b ∷ ts) ks
-  at_bare : {l k : ℕ} {d ks : Doc} {ts : List Token} → Left (Inside l k d OfDefault []) ts ks → Left (Bare l k d) (OpenList ∷ ts) ks
+  at_defaulted : {l k : ℕ} {d ks : Doc} {ts : List Token} → Left (Inside l k d OfDefault []) ts ks → Left (Defaulted l k d) (OpenList ∷ ts) ks
   at_listed : {l k : ℕ} {d ks : Doc} {o : Owner} {ps qs : List Pair} {vs ts : List Token} → Lists vs qs → Left (Ended l k (keep d (kept_of o (ps ++ qs)))) ts ks → Left (Listed l k d o ps) (vs ++ ts) ks
   at_inside : {l k : ℕ} {d ks : Doc} {o : Owner} {ps qs : List Pair} {vs ts : List Token} → Pairs vs qs → Left (Listed l k d o (ps ++ qs)) ts ks → Left (Inside l k d o ps) (vs ++ CloseList ∷ ts) ks
-  at_keyed : {l k : ℕ} {d ks : Doc} {o : Owner} {ps : List Pair} {a : List ℕ} {ts : List Token} → Left (Valued l k d o ps a) ts ks → Left (Keyed l k d o ps a) (Equals ∷ ts) ks
-  at_valued : {l k : ℕ} {d ks : Doc} {o : Owner} {ps : List Pair} {a b : List ℕ} {ts : List Token} → Left (Paired l k d o (ps ++ (a, b) ∷ [])) ts ks → Left (Valued l k d o ps a) (Id b ∷ ts) ks
+  at_keyed : {l k : ℕ} {d ks : Doc} {o : Owner} {ps : List Pair} {a : List ℕ} {ts : List Token} → Left (Equated l k d o ps a) ts ks → Left (Keyed l k d o ps a) (Equals ∷ ts) ks
+  at_equated : {l k : ℕ} {d ks : Doc} {o : Owner} {ps : List Pair} {a b : List ℕ} {ts : List Token} → Left (Paired l k d o (ps ++ (a, b) ∷ [])) ts ks → Left (Equated l k d o ps a) (Id b ∷ ts) ks
   at_paired : {l k : ℕ} {d ks : Doc} {o : Owner} {ps : List Pair} {end ts : List Token} → PairEnd end → Left (Inside l k d o ps) ts ks → Left (Paired l k d o ps) (end ++ ts) ks
   at_whole : {ks : Doc} → Left (Whole ks) [] ks
 
@@ -51,14 +51,14 @@ rest_more {ts = ts} {end = end} {ks = ks} s e (up {ts = vs} {end = fin} {us = ws
 statement_left : {l k : ℕ} {d xs : Doc} {ks : List Kept} {ts us : List Token} → Statement l ts ks → Left (Ended l k (keep d ks)) us xs → Left (Ready l k d) (ts ++ us) xs
 statement_left {d = d} {ks = ks} s (at_ended e (at_ready {ks = ls} r)) = keeps (sym (keep_append d ks ls)) (at_ready (rest_more s e r))
 
-from_word : {l k : ℕ} {d ks : Doc} {a : List ℕ} {ts : List Token} → Left (Word l k d a) ts ks → Left (Ready l k d) (Id a ∷ ts) ks
-from_word {a = a} (at_word (at_listed p h)) = statement_left (node a p) h
-from_word {a = a} (at_arrow (at_pointed {b = b} (at_listed p h))) = statement_left (edge a b p) h
-from_word {l = l} {k = k} {d = d} {a = a} (at_equals (at_setting {b = b} h)) =
+from_identified : {l k : ℕ} {d ks : Doc} {a : List ℕ} {ts : List Token} → Left (Identified l k d a) ts ks → Left (Ready l k d) (Id a ∷ ts) ks
+from_identified {a = a} (at_identified (at_listed p h)) = statement_left (node a p) h
+from_identified {a = a} (at_arrow (at_pointed {b = b} (at_listed p h))) = statement_left (edge a b p) h
+from_identified {l = l} {k = k} {d = d} {a = a} (at_equals (at_setting {b = b} h)) =
     statement_left (set a b) (to (ap (λ v. Ended l k v) (sym (keep_nil d))) refl h)
 
-from_bare : {l k : ℕ} {d ks : Doc} {ts : List Token} → Left (Bare l k d) ts ks → Left (Ready l k d) (Default ∷ ts) ks
-from_bare (at_bare (at_inside {vs = vs} p (at_listed {vs = ws} {ts = ts} q h))) =
+from_defaulted : {l k : ℕ} {d ks : Doc} {ts : List Token} → Left (Defaulted l k d) ts ks → Left (Ready l k d) (Default ∷ ts) ks
+from_defaulted (at_defaulted (at_inside {vs = vs} p (at_listed {vs = ws} {ts = ts} q h))) =
     to refl (simp append_assoc) (statement_left (default p q) h)
 
 from_open : {l k : ℕ} {d ks : Doc} {head ts : List Token} → Head head → Left (Ready l (suc k) d) ts ks → Left (Ready (suc l) k d) (head ++ Open ∷ ts) ks
@@ -79,7 +79,7 @@ from_begin (at_headed no_name (at_ready (last r))) = at_begin (document no_name 
 from_begin (at_headed (a_name a) (at_ready (last r))) = at_begin (document (a_name a) r)
 
 from_keyed : {l k : ℕ} {d ks : Doc} {o : Owner} {ps : List Pair} {a : List ℕ} {ts : List Token} → Left (Keyed l k d o ps a) ts ks → Left (Inside l k d o ps) (Id a ∷ ts) ks
-from_keyed {l = l} {k = k} {d = d} {o = o} {ps = ps} {a = a} (at_keyed (at_valued {b = b} (at_paired e (at_inside {qs = qs} p h)))) =
+from_keyed {l = l} {k = k} {d = d} {o = o} {ps = ps} {a = a} (at_keyed (at_equated {b = b} (at_paired e (at_inside {qs = qs} p h)))) =
     to refl (simp append_assoc) (at_inside (pair a b e p) (to (ap (λ v. Listed l k d o v) (append_assoc ps ((a, b) ∷ []) qs)) refl h))
 
 from_listed : {l k : ℕ} {d ks : Doc} {o : Owner} {ps : List Pair} {ts : List Token} → Left (Listed l k d o ps) ts ks → Left (Inside l k d o ps) (CloseList ∷ ts) ks
@@ -99,8 +99,8 @@ Before s t (Some z) = (ts : List Token) (ks : Doc) → Left z ts ks → Left s (
 
 back_ready : (l k : ℕ) (d : Doc) (t : Token) → Before (Ready l k d) t (ready l k d t)
 unfolding Before
-back_ready l k d (Id a) = λ ts ks h. from_word h
-back_ready l k d Default = λ ts ks h. from_bare h
+back_ready l k d (Id a) = λ ts ks h. from_identified h
+back_ready l k d Default = λ ts ks h. from_defaulted h
 back_ready (suc l) k d Subgraph = λ ts ks h. from_headed h
 back_ready (suc l) k d Open = λ ts ks h. from_open no_head h
 back_ready l zero d Close = λ ts ks h. from_whole h
@@ -142,21 +142,21 @@ back (Named l k d) Open = λ ts ks h. at_named h
 back (Named l k d) t = tt
 back (Ready l k d) t = back_ready l k d t
 back (Ended l k d) t = back_ended l k d t
-back (Word l k d a) Arrow = λ ts ks h. at_arrow h
-back (Word l k d a) Equals = λ ts ks h. at_equals h
-back (Word l k d a) t = lift (Listed l k d (OfNode a) []) (Word l k d a) t (listed l k d (OfNode a) [] t) (λ ts ks h. at_word h) (back_listed l k d (OfNode a) [] t)
+back (Identified l k d a) Arrow = λ ts ks h. at_arrow h
+back (Identified l k d a) Equals = λ ts ks h. at_equals h
+back (Identified l k d a) t = lift (Listed l k d (OfNode a) []) (Identified l k d a) t (listed l k d (OfNode a) [] t) (λ ts ks h. at_identified h) (back_listed l k d (OfNode a) [] t)
 back (Pointed l k d a) (Id b) = λ ts ks h. at_pointed h
 back (Pointed l k d a) t = tt
 back (Setting l k d) (Id b) = λ ts ks h. at_setting h
 back (Setting l k d) t = tt
-back (Bare l k d) OpenList = λ ts ks h. at_bare h
-back (Bare l k d) t = tt
+back (Defaulted l k d) OpenList = λ ts ks h. at_defaulted h
+back (Defaulted l k d) t = tt
 back (Listed l k d o ps) t = back_listed l k d o ps t
 back (Inside l k d o ps) t = back_inside l k d o ps t
 back (Keyed l k d o ps a) Equals = λ ts ks h. at_keyed h
 back (Keyed l k d o ps a) t = tt
-back (Valued l k d o ps a) (Id b) = λ ts ks h. at_valued h
-back (Valued l k d o ps a) t = tt
+back (Equated l k d o ps a) (Id b) = λ ts ks h. at_equated h
+back (Equated l k d o ps a) t = tt
 back (Paired l k d o ps) Comma = λ ts ks h. at_paired comma h
 back (Paired l k d o ps) Semicolon = λ ts ks h. at_paired pair_semicolon h
 back (Paired l k d o ps) t = lift (Inside l k d o ps) (Paired l k d o ps) t (inside l k d o ps t) (λ ts ks h. at_paired no_mark h) (back_inside l k d o ps t)
@@ -206,10 +206,10 @@ end_inside l k d o ps = let r : Ends (Listed l k d o ps) = end_listed l k d o ps
 end_paired : (l k : ℕ) (d : Doc) (o : Owner) (ps : List Pair) → Ends (Paired l k d o ps)
 end_paired l k d o ps = let r : Ends (Inside l k d o ps) = end_inside l k d o ps in record { tokens = r.tokens; kept = r.kept; left = at_paired no_mark r.left }
 
-end_valued : (l k : ℕ) (d : Doc) (o : Owner) (ps : List Pair) (a : List ℕ) → Ends (Valued l k d o ps a)
-end_valued l k d o ps a =
+end_equated : (l k : ℕ) (d : Doc) (o : Owner) (ps : List Pair) (a : List ℕ) → Ends (Equated l k d o ps a)
+end_equated l k d o ps a =
     let r : Ends (Paired l k d o (ps ++ (a, a) ∷ [])) = end_paired l k d o (ps ++ (a, a) ∷ []) in
-    record { tokens = Id a ∷ r.tokens; kept = r.kept; left = at_valued r.left }
+    record { tokens = Id a ∷ r.tokens; kept = r.kept; left = at_equated r.left }
 
 pub ends : (s : State) → Ends s
 ends Begin = record { tokens = Digraph ∷ Open ∷ Close ∷ []; kept = doc_of []; left = at_begin (document no_name no_statement) }
@@ -217,13 +217,13 @@ ends (Headed l k d) = let r : Ends (Ready l k d) = end_ready l k d in record { t
 ends (Named l k d) = let r : Ends (Ready l k d) = end_ready l k d in record { tokens = Open ∷ r.tokens; kept = r.kept; left = at_named r.left }
 ends (Ready l k d) = end_ready l k d
 ends (Ended l k d) = end_ended l k d
-ends (Word l k d a) = let r : Ends (Listed l k d (OfNode a) []) = end_listed l k d (OfNode a) [] in record { tokens = r.tokens; kept = r.kept; left = at_word r.left }
+ends (Identified l k d a) = let r : Ends (Listed l k d (OfNode a) []) = end_listed l k d (OfNode a) [] in record { tokens = r.tokens; kept = r.kept; left = at_identified r.left }
 ends (Pointed l k d a) = let r : Ends (Listed l k d (OfEdge a a) []) = end_listed l k d (OfEdge a a) [] in record { tokens = Id a ∷ r.tokens; kept = r.kept; left = at_pointed r.left }
 ends (Setting l k d) = let r : Ends (Ended l k d) = end_ended l k d in record { tokens = Id [] ∷ r.tokens; kept = r.kept; left = at_setting r.left }
-ends (Bare l k d) = let r : Ends (Inside l k d OfDefault []) = end_inside l k d OfDefault [] in record { tokens = OpenList ∷ r.tokens; kept = r.kept; left = at_bare r.left }
+ends (Defaulted l k d) = let r : Ends (Inside l k d OfDefault []) = end_inside l k d OfDefault [] in record { tokens = OpenList ∷ r.tokens; kept = r.kept; left = at_defaulted r.left }
 ends (Listed l k d o ps) = end_listed l k d o ps
 ends (Inside l k d o ps) = end_inside l k d o ps
-ends (Keyed l k d o ps a) = let r : Ends (Valued l k d o ps a) = end_valued l k d o ps a in record { tokens = Equals ∷ r.tokens; kept = r.kept; left = at_keyed r.left }
-ends (Valued l k d o ps a) = end_valued l k d o ps a
+ends (Keyed l k d o ps a) = let r : Ends (Equated l k d o ps a) = end_equated l k d o ps a in record { tokens = Equals ∷ r.tokens; kept = r.kept; left = at_keyed r.left }
+ends (Equated l k d o ps a) = end_equated l k d o ps a
 ends (Paired l k d o ps) = end_paired l k d o ps
 ends (Whole ks) = record { tokens = []; kept = ks; left = at_whole }

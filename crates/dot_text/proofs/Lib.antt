@@ -2,13 +2,12 @@ pub mod Keeping
 pub mod Running
 pub mod Left
 pub mod Going
-pub mod Tests
+pub mod Cases
 pub mod Scanned
 pub mod Sound
 pub mod Places
 pub mod Reading
 pub mod Prefix
-pub mod Rows
 pub mod Seams
 pub mod Printed
 pub mod Lines
@@ -25,4 +24,3 @@ pub mod Slices
 pub mod Prefixes
 pub mod Staying
 pub mod Fronts
-pub mod Answered

@@ -1,20 +1,21 @@
 -- A token is the longest that begins at its byte.
 use Rattle.std.proofs.Common.{◌≡◌, ℕ, ◌+◌, ◌≤◌, refl, sym, ap, subst, ◌∙◌, ◌==◌, Bool, true, false, if◌then◌else◌, List, [], ◌∷◌, ◌++◌, length, drop, arith}
-use Rattle.std.proofs.lemmas.Bool.{cond-true, cond-false, cond_both}
+use Rattle.std.proofs.lemmas.Bool.{cond-true, cond-false, cond_both, and_parts, and_from, or_left}
 use Rattle.std.specs.Char.{is_ascii_digit}
+use Rattle.std.specs.List.{list_all}
 use Rattle.dot_text.specs.Tokens.{Token, Id, Arrow}
-use Rattle.dot_text.specs.Lexical.{begins_name, is_in_name, is_by_numeral, is_name, is_numeral, is_unsigned, all, begins_line, Spells, Spells.name, Spells.numeral, Spells.quoted, Spells.arrow, Spells.mark, TokenAt}
+use Rattle.dot_text.specs.Lexical.{begins_name, is_in_name, is_by_numeral, is_name, is_numeral, is_unsigned, begins_line, Spells, Spells.name, Spells.numeral, Spells.quoted, Spells.arrow, Spells.mark, TokenAt}
 use Rattle.dot_text.specs.Scanner.{Cut, before, run_of, Front, Gives, Faulty, gives_name, gives_numeral, begins_number, front}
-use Rattle.dot_text.proofs.Tests.{Both, both, and_both, or_first, differ, is_at, number_no_name, number_not}
+use Rattle.dot_text.proofs.Cases.{differ, is_at, number_no_name, number_no_arrow}
 use Rattle.dot_text.proofs.Scanned.{cut_of, token_found, numbered, unsigned_all}
 use Rattle.dot_text.proofs.Places.{token_front}
 
-run_at_least : (test : ℕ → Bool) (w rest : List ℕ) → all test w ≡ true → length w ≤ length (run_of test (w ++ rest)).text
+run_at_least : (test : ℕ → Bool) (w rest : List ℕ) → list_all test w ≡ true → length w ≤ length (run_of test (w ++ rest)).text
 run_at_least test [] rest a = omega arith
 run_at_least test (b ∷ w) rest a =
-    let h : Both (test b) (all test w) = both (test b) (all test w) a in
-    let more : length w ≤ length (run_of test (w ++ rest)).text = run_at_least test w rest h.second in
-    subst (λ c. length (b ∷ w) ≤ length c.text) (sym (cond-true (test b) (before b (run_of test (w ++ rest))) _ h.first)) (omega arith)
+    let h = and_parts (test b) (list_all test w) a in
+    let more : length w ≤ length (run_of test (w ++ rest)).text = run_at_least test w rest h.1 in
+    subst (λ c. length (b ∷ w) ≤ length c.text) (sym (cond-true (test b) (before b (run_of test (w ++ rest))) _ h.0)) (omega arith)
 
 -- what a front gives is at least so long
 AtLeast : ℕ → Front → Type 0
@@ -45,7 +46,7 @@ numeral_least sign w rest u =
 signed_least : (line : Bool) (w rest : List ℕ) → is_unsigned false w ≡ true → AtLeast (length (45 ∷ w)) (front line (45 ∷ (w ++ rest)))
 signed_least line [] rest u = differ false u refl
 signed_least line (b ∷ w) rest u =
-    to_front (length (45 ∷ b ∷ w)) (front line (45 ∷ b ∷ (w ++ rest))) (gives_numeral (45 ∷ []) (run_of is_by_numeral (b ∷ (w ++ rest)))) (cond-false (b == 62) _ _ (number_not b ((numbered false b w u).begins)))
+    to_front (length (45 ∷ b ∷ w)) (front line (45 ∷ b ∷ (w ++ rest))) (gives_numeral (45 ∷ []) (run_of is_by_numeral (b ∷ (w ++ rest)))) (cond-false (b == 62) _ _ (number_no_arrow b ((numbered false b w u).begins)))
     (numeral_least (45 ∷ []) (b ∷ w) rest u)
 
 number_least : (line : Bool) (w rest : List ℕ) → is_numeral w ≡ true → AtLeast (length w) (front line (w ++ rest))
@@ -62,9 +63,9 @@ number_least line (b ∷ w) rest h = by (b == 45) refl h
 name_least : (line : Bool) (w rest : List ℕ) → is_name w ≡ true → AtLeast (length w) (front line (w ++ rest))
 name_least line [] rest h = differ false h refl
 name_least line (b ∷ w) rest h =
-    let n : Both (begins_name b) (all is_in_name w) = both (begins_name b) (all is_in_name w) h in
-    to_front (length (b ∷ w)) (front line (b ∷ (w ++ rest))) (gives_name (run_of is_in_name (b ∷ (w ++ rest)))) (cond-true (begins_name b) _ _ n.first)
-    (at_least_gives (length (b ∷ w)) _ _ (run_at_least is_in_name (b ∷ w) rest (and_both (is_in_name b) (all is_in_name w) (or_first (begins_name b) (is_ascii_digit b) n.first) n.second)))
+    let n = and_parts (begins_name b) (list_all is_in_name w) h in
+    to_front (length (b ∷ w)) (front line (b ∷ (w ++ rest))) (gives_name (run_of is_in_name (b ∷ (w ++ rest)))) (cond-true (begins_name b) _ _ n.0)
+    (at_least_gives (length (b ∷ w)) _ _ (run_at_least is_in_name (b ∷ w) rest (and_from (is_in_name b) (list_all is_in_name w) (or_left (begins_name b) (is_ascii_digit b) n.0) n.1)))
 
 front_least : {text other : List ℕ} {u : Token} (line : Bool) (rest : List ℕ) → Spells text other u → AtLeast (length text) (front line (text ++ rest))
 front_least line rest (name w h s) = name_least line w rest h

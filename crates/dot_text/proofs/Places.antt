@@ -4,6 +4,7 @@ use Rattle.std.proofs.Math.Seq.{drop-length}
 use Rattle.dot_text.specs.Tokens.{Token}
 use Rattle.dot_text.specs.Lexical.{begins_line, SkipAt, TokenAt, Gap, Gap.none as no_gap, Gap.skip, Lexes, Lexes.none as no_token, Lexes.next}
 use Rattle.dot_text.specs.Scanner.{AtEnd, Skips, Gives, front, front_at}
+use Rattle.dot_text.specs.Blanks.{BlankAt}
 use Rattle.dot_text.proofs.Scanned.{cut_of, token_found, skip_found}
 use Rattle.dot_text.specs.Grammar.{Document}
 use Rattle.dot_text.specs.declared.doc.Doc.{Doc}
@@ -17,8 +18,15 @@ pub record SameToken (t u : Token) (q r : ℕ) : Type 0 where
 pub token_front : {bytes : List ℕ} {p q : ℕ} {t : Token} (a : TokenAt bytes p t q) → front_at bytes p ≡ Gives t (cut_of a.text a.rest)
 token_front {bytes = bytes} {p = p} a = ap (front (begins_line bytes p)) a.is ∙ token_found (begins_line bytes p) a.spells
 
+pub blank_front : {bytes : List ℕ} {p q : ℕ} (a : BlankAt bytes p q) → front_at bytes p ≡ Skips (cut_of a.text a.rest)
+blank_front {bytes = bytes} {p = p} a = ap (front (begins_line bytes p)) a.is ∙ skip_found a.skipped
+
+-- whatever its bytes
+abbrev blank_of : {bytes : List ℕ} {p q : ℕ} → SkipAt bytes p q → BlankAt bytes p q
+blank_of a = record { text = a.text; rest = a.rest; is = a.is; skipped = a.skipped; ends = a.ends }
+
 pub skip_front : {bytes : List ℕ} {p q : ℕ} (a : SkipAt bytes p q) → front_at bytes p ≡ Skips (cut_of a.text a.rest)
-skip_front {bytes = bytes} {p = p} a = ap (front (begins_line bytes p)) a.is ∙ skip_found a.skipped
+skip_front a = blank_front (blank_of a)
 
 pub end_front : (bytes : List ℕ) (p : ℕ) → p ≡ length bytes → front_at bytes p ≡ AtEnd
 end_front bytes p e = ap (front (begins_line bytes p)) (ap (λ z. drop z bytes) e ∙ drop-length bytes)
@@ -30,12 +38,11 @@ token_unique {p = p} {t = t} {u = u} a b =
     let same : a.text ≡ b.text = ap (λ z. z.text) cuts in
     record { token = cc; end = a.ends ∙ ap (λ z. p + length z) same ∙ sym b.ends }
 
-pub skip_unique : {bytes : List ℕ} {p q r : ℕ} → SkipAt bytes p q → SkipAt bytes p r → q ≡ r
-skip_unique {p = p} a b =
-    let e : Skips (cut_of a.text a.rest) ≡ Skips (cut_of b.text b.rest) = sym (skip_front a) ∙ skip_front b in
+pub blank_unique : {bytes : List ℕ} {p q r : ℕ} → BlankAt bytes p q → BlankAt bytes p r → q ≡ r
+blank_unique {p = p} a b =
+    let e : Skips (cut_of a.text a.rest) ≡ Skips (cut_of b.text b.rest) = sym (blank_front a) ∙ blank_front b in
     let cuts : cut_of a.text a.rest ≡ cut_of b.text b.rest = cc in
-    let same : a.text ≡ b.text = ap (λ z. z.text) cuts in
-    a.ends ∙ ap (λ z. p + length z) same ∙ sym b.ends
+    a.ends ∙ ap (λ z. p + length z.text) cuts ∙ sym b.ends
 
 -- no blank and no comment stands at p
 pub record Stops (bytes : List ℕ) (p : ℕ) : Type 0 where
@@ -53,7 +60,7 @@ pub gap_unique : {bytes : List ℕ} {p q r : ℕ} → Gap bytes p q → Gap byte
 gap_unique no_gap no_gap x y = refl
 gap_unique no_gap (skip s g) x y = absurd (x.none _ s)
 gap_unique (skip s g) no_gap x y = absurd (y.none _ s)
-gap_unique {bytes = bytes} {r = r} (skip s g) (skip z h) x y = gap_unique g (subst (λ v. Gap bytes v r) (skip_unique z s) h) x y
+gap_unique {bytes = bytes} {r = r} (skip s g) (skip z h) x y = gap_unique g (subst (λ v. Gap bytes v r) (blank_unique (blank_of z) (blank_of s)) h) x y
 
 -- the longer of two lists of tokens from one place goes on where the shorter ends
 pub record GoesOn (bytes : List ℕ) (ts us : List Token) (q r : ℕ) : Type 0 where

@@ -8,6 +8,7 @@ use Rattle.dot_text.specs.Lexical.{begins_line, Spells, Spells.name, Spells.nume
 use Rattle.dot_text.specs.Grammar.{Kept, Document, Document.document}
 use Rattle.dot_text.specs.declared.doc.Doc.{Doc}
 use Rattle.dot_text.specs.Documents.{Stands}
+use Rattle.dot_text.proofs.Cases.{words}
 use Rattle.dot_text.proofs.Reading.{spells_some, skipped_some}
 
 -- what stands before a byte stands there whatever comes behind it
@@ -26,14 +27,8 @@ skipped_on b y (hash w a s) = hash w a s
 
 pub word_no_close : (w : List ℕ) → word_token w ≡ Close → ⊥
 word_no_close w =
-    let P : Token → Type 0 = λ t. t ≡ Close → ⊥ in
-    let lower : List ℕ = str_to_ascii_lowercase w in
-    cond_both (bytes_eq (str_to_ascii_lowercase w) (codes "digraph")) _ _ P (λ h e. let z : Digraph ≡ Close = e in cc) (λ n.
-    cond_both (bytes_eq (str_to_ascii_lowercase w) (codes "subgraph")) _ _ P (λ h e. let z : Subgraph ≡ Close = e in cc) (λ n.
-    cond_both (bytes_eq (str_to_ascii_lowercase w) (codes "graph")) _ _ P (λ h e. let z : Default ≡ Close = e in cc) (λ n.
-    cond_both (bytes_eq (str_to_ascii_lowercase w) (codes "node")) _ _ P (λ h e. let z : Default ≡ Close = e in cc) (λ n.
-    cond_both (bytes_eq (str_to_ascii_lowercase w) (codes "edge")) _ _ P (λ h e. let z : Default ≡ Close = e in cc) (λ n.
-    cond_both (bytes_eq (str_to_ascii_lowercase w) (codes "strict")) _ _ P (λ h e. let z : Strict ≡ Close = e in cc) (λ n e. let z : Id w ≡ Close = e in cc))))))
+    words (λ t. t ≡ Close → ⊥) w (λ e. let z : Digraph ≡ Close = e in cc) (λ e. let z : Subgraph ≡ Close = e in cc)
+    (λ e. let z : Default ≡ Close = e in cc) (λ e. let z : Strict ≡ Close = e in cc) (λ e. let z : Id w ≡ Close = e in cc)
 
 -- a } needs nothing behind it
 close_on : {text rest : List ℕ} {t : Token} (other : List ℕ) → t ≡ Close → Spells text rest t → Spells text other t

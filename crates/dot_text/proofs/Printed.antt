@@ -1,25 +1,26 @@
 -- Printed documents stand.
 use Rattle.std.proofs.Common.{◌≡◌, ℕ, ◌+◌, refl, sym, ap, subst, ◌∙◌, ◌==◌, true, false, ◌&&◌, ◌||◌, List, [], ◌∷◌, ◌++◌, length, drop, codes, bytes_eq, IsUtf8, append-nil, append_assoc, arith, length-append}
-use Rattle.std.proofs.lemmas.Bool.{cond-false, cond_both}
-use Rattle.std.specs.Str.{str_to_ascii_lowercase}
-use Rattle.std.specs.List.{AllByRecursion}
-use Rattle.dot_text.specs.Tokens.{Token, Id, Digraph, Open, Close, OpenList, CloseList, Semicolon, Comma, Equals, Arrow, word_token}
-use Rattle.dot_text.specs.Lexical.{is_blank, all, is_name, Quotes, Quotes.nothing as no_bytes, Quotes.plain, Quotes.quote, Quotes.passed, Spells, Spells.name as bare, Spells.quoted, Spells.arrow, Spells.mark, Skipped.blank, Gap, Gap.none as no_gap, Gap.skip, Lexes, Lexes.none as no_token, Lexes.next}
+use Rattle.std.proofs.lemmas.Bool.{cond-false, cond_both, and_parts, or_parts, not-true, and_from}
+use Rattle.std.specs.Prelude.{Option, Some, None, is_none, unwrap_or}
+use Rattle.std.specs.List.{AllByRecursion, list_all}
+use Rattle.dot_text.specs.Tokens.{Token, Id, Digraph, Open, Close, OpenList, CloseList, Semicolon, Comma, Equals, Arrow, keyword, word_token}
+use Rattle.dot_text.specs.Lexical.{is_blank, is_name, Quotes, Quotes.nothing as no_bytes, Quotes.plain, Quotes.quote, Quotes.passed, Spells, Spells.name as bare, Spells.quoted, Spells.arrow, Spells.mark, Skipped.blank, Gap, Gap.none as no_gap, Gap.skip, Lexes, Lexes.none as no_token, Lexes.next}
 use Rattle.dot_text.specs.Grammar.{Pair, Kept, Node, Edge, kept_node, PairEnd.nothing as no_mark, PairEnd.comma, Pairs, Pairs.none as no_pair, Pairs.pair, Lists.none as no_list, Lists.list, End.semicolon as end_semicolon, Name.name as a_name, Statement, Statement.node, Statement.edge, Statements, Statements.none as no_statement, Statements.some, Document, Document.document}
 use Rattle.dot_text.specs.declared.doc.Doc.{Doc}
 use Rattle.dot_text.specs.declared.doc.DocNode.{DocNode}
 use Rattle.dot_text.specs.declared.doc.DocEdge.{DocEdge}
 use Rattle.dot_text.specs.Documents.{nodes_of, edges_of, Stands}
-use Rattle.dot_text.specs.Printing.{escaped, in_quotes, is_id, key_text, pair_text, more_pairs, pairs_text, node_line, edge_line, node_lines, edge_lines, printed, CanBeQuoted, PairPrints, NodePrints, EdgePrints, HasPair, DocPrints}
+use Rattle.dot_text.specs.Printing.{escaped, in_quotes, key_text, pair_text, more_pairs, pairs_text, node_line, edge_line, node_lines, edge_lines, printed, CanBeQuoted, PairPrints, NodePrints, EdgePrints, HasPair, DocPrints}
+use Rattle.dot_text.proofs.Keeping.{doc_from}
 use Rattle.dot_text.proofs.Reading.{past_text}
 use Rattle.dot_text.proofs.Prefix.{stands_on}
 use Rattle.dot_text.proofs.Seams.{blanks_cut, token_cut}
-use Rattle.dot_text.proofs.Tests.{Both, both, Neither, neither, not_true, and_both, differ}
+use Rattle.dot_text.proofs.Cases.{differ}
 
 -- the bytes are these tokens, with blanks before each, and then the rest
 pub data Writes : List ℕ → List Token → List ℕ → Type 0 where
   done : {rest : List ℕ} → Writes rest [] rest
-  write : (bl text mid : List ℕ) {rest : List ℕ} {t : Token} {ts : List Token} → all is_blank bl ≡ true → Spells text mid t → Writes mid ts rest → Writes (bl ++ (text ++ mid)) (t ∷ ts) rest
+  write : (bl text mid : List ℕ) {rest : List ℕ} {t : Token} {ts : List Token} → list_all is_blank bl ≡ true → Spells text mid t → Writes mid ts rest → Writes (bl ++ (text ++ mid)) (t ∷ ts) rest
 
 pub record Led (bytes : List ℕ) (p : ℕ) (ts : List Token) (s rest : List ℕ) : Type 0 where
   pub end : ℕ
@@ -32,15 +33,15 @@ record Gone (bytes : List ℕ) (p : ℕ) (blanks rest : List ℕ) : Type 0 where
   is : drop to bytes ≡ rest
   count : to ≡ p + length blanks
 
-blanks_gone : (bytes blanks rest : List ℕ) (p : ℕ) → all is_blank blanks ≡ true → IsUtf8 (blanks ++ rest) → drop p bytes ≡ blanks ++ rest → Gone bytes p blanks rest
+blanks_gone : (bytes blanks rest : List ℕ) (p : ℕ) → list_all is_blank blanks ≡ true → IsUtf8 (blanks ++ rest) → drop p bytes ≡ blanks ++ rest → Gone bytes p blanks rest
 blanks_gone bytes [] rest p h u e = record { to = p; gap = no_gap; is = e; count = omega arith }
 blanks_gone bytes (b ∷ bs) rest p h u e =
-    let two : Both (is_blank b) (all is_blank bs) = both (is_blank b) (all is_blank bs) h in
-    let (first, more) = blanks_cut (b ∷ []) (bs ++ rest) (and_both (is_blank b) true two.first refl) u in
-    let g : Gone bytes (p + 1) bs rest = blanks_gone bytes bs rest (p + 1) two.second more (past_text bytes (b ∷ []) (bs ++ rest) p e) in
+    let two = and_parts (is_blank b) (list_all is_blank bs) h in
+    let (first, more) = blanks_cut (b ∷ []) (bs ++ rest) (and_from (is_blank b) true two.0 refl) u in
+    let g : Gone bytes (p + 1) bs rest = blanks_gone bytes bs rest (p + 1) two.1 more (past_text bytes (b ∷ []) (bs ++ rest) p e) in
     record {
       to = g.to;
-      gap = skip (record { text = b ∷ []; rest = bs ++ rest; is = e; skipped = blank b two.first; utf8 = first; ends = refl }) g.gap;
+      gap = skip (record { text = b ∷ []; rest = bs ++ rest; is = e; skipped = blank b two.0; utf8 = first; ends = refl }) g.gap;
       is = g.is;
       count = omega (arith, g.count);
     }
@@ -65,7 +66,7 @@ NotEmpty (t ∷ ts) = Unit {0}
 blank_writes : {s rest : List ℕ} {ts : List Token} (b : ℕ) → is_blank b ≡ true → NotEmpty ts → Writes s ts rest → Writes (b ∷ s) ts rest
 unfolding NotEmpty
 blank_writes b h n done = absurd n
-blank_writes b h n (write bl text mid g sp w) = write (b ∷ bl) text mid (and_both (is_blank b) (all is_blank bl) h g) sp w
+blank_writes b h n (write bl text mid g sp w) = write (b ∷ bl) text mid (and_from (is_blank b) (list_all is_blank bl) h g) sp w
 
 bytes_as : {s z rest : List ℕ} {ts : List Token} → s ≡ z → Writes s ts rest → Writes z ts rest
 bytes_as {rest = rest} {ts = ts} e w = subst (λ v. Writes v ts rest) e w
@@ -74,13 +75,13 @@ bytes_as {rest = rest} {ts = ts} e w = subst (λ v. Writes v ts rest) e w
 escaped_is : {bs : List ℕ} {v : List ℕ} → Quotes bs v → bs ≡ escaped v
 escaped_is no_bytes = refl
 escaped_is (plain {v = v} b h q) =
-    let n : Neither (b == 34) (b == 92) = neither (b == 34) (b == 92) (not_true _ h) in
-    ap (λ z. b ∷ z) (escaped_is q) ∙ sym (cond-false (b == 34) _ _ n.first)
+    let n = or_parts (b == 34) (b == 92) (not-true _ h) in
+    ap (λ z. b ∷ z) (escaped_is q) ∙ sym (cond-false (b == 34) _ _ n.0)
 escaped_is (quote q) = ap (λ z. 92 ∷ 34 ∷ z) (escaped_is q)
 escaped_is (passed {v = v} b h q) =
-    let n : Neither (b == 34 || b == 10) (b == 13) = neither (b == 34 || b == 10) (b == 13) (not_true _ h) in
-    let m : Neither (b == 34) (b == 10) = neither (b == 34) (b == 10) n.first in
-    ap (λ z. 92 ∷ b ∷ z) (escaped_is q) ∙ sym (ap (λ z. 92 ∷ z) (cond-false (b == 34) _ _ m.first))
+    let n = or_parts (b == 34 || b == 10) (b == 13) (not-true _ h) in
+    let m = or_parts (b == 34) (b == 10) n.0 in
+    ap (λ z. 92 ∷ b ∷ z) (escaped_is q) ∙ sym (ap (λ z. 92 ∷ z) (cond-false (b == 34) _ _ m.0))
 
 quoted_writes : {mid rest : List ℕ} {ts : List Token} (v : List ℕ) → CanBeQuoted v → Writes mid ts rest → Writes (in_quotes (escaped v) ++ mid) (Id v ∷ ts) rest
 quoted_writes {mid = mid} {rest = rest} {ts = ts} v c w =
@@ -92,22 +93,20 @@ mark_writes {mid = mid} b s w = write [] (b ∷ []) mid refl s w
 arrow_writes : {mid rest : List ℕ} {ts : List Token} → Writes mid ts rest → Writes (45 ∷ 62 ∷ mid) (Arrow ∷ ts) rest
 arrow_writes {mid = mid} w = write [] (45 ∷ 62 ∷ []) mid refl arrow w
 
-word_id : (w : List ℕ) → is_id (word_token w) ≡ true → word_token w ≡ Id w
-word_id w =
-    let P : Token → Type 0 = λ t. is_id t ≡ true → t ≡ Id w in
-    cond_both (bytes_eq (str_to_ascii_lowercase w) (codes "digraph")) _ _ P (λ h e. differ false e refl) (λ n.
-    cond_both (bytes_eq (str_to_ascii_lowercase w) (codes "subgraph")) _ _ P (λ h e. differ false e refl) (λ n.
-    cond_both (bytes_eq (str_to_ascii_lowercase w) (codes "graph")) _ _ P (λ h e. differ false e refl) (λ n.
-    cond_both (bytes_eq (str_to_ascii_lowercase w) (codes "node")) _ _ P (λ h e. differ false e refl) (λ n.
-    cond_both (bytes_eq (str_to_ascii_lowercase w) (codes "edge")) _ _ P (λ h e. differ false e refl) (λ n.
-    cond_both (bytes_eq (str_to_ascii_lowercase w) (codes "strict")) _ _ P (λ h e. differ false e refl) (λ n e. refl))))))
+-- a word that is no keyword is an ID
+word_id : (w : List ℕ) → is_none (keyword w) ≡ true → word_token w ≡ Id w
+word_id w h = by (keyword w) h
+  where
+    by : (o : Option Token) → is_none o ≡ true → unwrap_or o (Id w) ≡ Id w
+    by None h = refl
+    by (Some t) h = differ false h refl
 
 key_writes : {mid rest : List ℕ} {ts : List Token} (k : List ℕ) → CanBeQuoted k → Writes (32 ∷ mid) ts rest → Writes (key_text k ++ 32 ∷ mid) (Id k ∷ ts) rest
 key_writes {mid = mid} {rest = rest} {ts = ts} k c w =
-    cond_both (is_name k && is_id (word_token k)) _ _ (λ z. Writes (z ++ 32 ∷ mid) (Id k ∷ ts) rest)
+    cond_both (is_name k && is_none (keyword k)) _ _ (λ z. Writes (z ++ 32 ∷ mid) (Id k ∷ ts) rest)
     (λ h.
-    let two : Both (is_name k) (is_id (word_token k)) = both (is_name k) (is_id (word_token k)) h in
-    write [] k (32 ∷ mid) refl (subst (λ t. Spells k (32 ∷ mid) t) (word_id k two.second) (bare k two.first refl)) w)
+    let two = and_parts (is_name k) (is_none (keyword k)) h in
+    write [] k (32 ∷ mid) refl (subst (λ t. Spells k (32 ∷ mid) t) (word_id k two.1) (bare k two.0 refl)) w)
     (λ h. quoted_writes k c w)
 
 pair_writes : {mid rest : List ℕ} {ts : List Token} (p : Pair) → PairPrints p → Writes mid ts rest → Writes (pair_text p ++ mid) (Id p.0 ∷ Equals ∷ Id p.1 ∷ ts) rest
@@ -245,9 +244,6 @@ kept_edges : (ns : List DocNode) (es : List DocEdge) → edges_of (nodes_kept ns
 kept_edges [] [] = refl
 kept_edges [] (e ∷ es) = ap (λ z. e ∷ z) (kept_edges [] es)
 kept_edges (n ∷ ns) es = kept_edges ns es
-
-abbrev doc_from : List DocNode → List DocEdge → Doc
-doc_from ns es = record { nodes = ns; edges = es }
 
 doc_same : (ns ms : List DocNode) (es fs : List DocEdge) → ns ≡ ms → es ≡ fs → doc_from ns es ≡ doc_from ms fs
 doc_same ns ms es fs e f = cc

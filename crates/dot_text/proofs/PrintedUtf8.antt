@@ -1,20 +1,20 @@
 -- The lines of a document whose texts are UTF-8 are UTF-8.
 use Rattle.std.proofs.Common.{◌≡◌, ℕ, ◌<◌, refl, sym, subst, ◌==◌, ◌&&◌, nat_le, true, List, [], ◌∷◌, ◌++◌, codes, IsUtf8, append_assoc, arith, eqb-true}
-use Rattle.std.proofs.lemmas.Bool.{cond_both}
+use Rattle.std.proofs.lemmas.Bool.{cond_both, and_parts}
 use Rattle.std.proofs.lemmas.Bool.Decides.{nat_tests}
 use Rattle.std.proofs.lemmas.Str.{IsUtf8-append, IsUtf8-nil, IsUtf8-from_ascii}
 use Rattle.std.proofs.lemmas.Str.Ascii.{IsAscii-cons, IsAscii-nil}
-use Rattle.std.specs.List.{AllByRecursion}
-use Rattle.dot_text.specs.Tokens.{word_token}
-use Rattle.dot_text.specs.Lexical.{all, is_name}
+use Rattle.std.specs.List.{AllByRecursion, list_all}
+use Rattle.std.specs.Prelude.{is_none}
+use Rattle.dot_text.specs.Tokens.{keyword}
+use Rattle.dot_text.specs.Lexical.{is_name}
 use Rattle.dot_text.specs.Grammar.{Pair}
 use Rattle.dot_text.specs.declared.doc.Doc.{Doc}
 use Rattle.dot_text.specs.declared.doc.DocNode.{DocNode}
 use Rattle.dot_text.specs.declared.doc.DocEdge.{DocEdge}
-use Rattle.dot_text.specs.Printing.{escaped, in_quotes, is_id, key_text, pair_text, more_pairs, pairs_text, node_line, edge_line, node_lines, edge_lines, printed}
+use Rattle.dot_text.specs.Printing.{escaped, in_quotes, key_text, pair_text, more_pairs, pairs_text, node_line, edge_line, node_lines, edge_lines, printed}
 use Rattle.dot_text.specs.Texts.{PairTexts, NodeTexts, EdgeTexts, DocTexts}
 use Rattle.dot_text.proofs.Seams.{cut_before}
-use Rattle.dot_text.proofs.Tests.{Both, both}
 
 one_byte : (b : ℕ) → b < 128 → IsUtf8 (b ∷ [])
 one_byte b h = IsUtf8-from_ascii (b ∷ []) (IsAscii-cons b [] h IsAscii-nil)
@@ -25,9 +25,9 @@ behind_byte b rest h u = IsUtf8-append (b ∷ []) rest (one_byte b h) u
 low : (b : ℕ) → nat_le b 127 ≡ true → b < 128
 low b h = grind (arith, nat_tests)
 
-ascii : (bs : List ℕ) → all (λ b. nat_le b 127) bs ≡ true → IsUtf8 bs
+ascii : (bs : List ℕ) → list_all (λ b. nat_le b 127) bs ≡ true → IsUtf8 bs
 ascii [] h = IsUtf8-nil
-ascii (b ∷ bs) h = let two : Both (nat_le b 127) (all (λ c. nat_le c 127) bs) = both (nat_le b 127) (all (λ c. nat_le c 127) bs) h in behind_byte b bs (low b two.first) (ascii bs two.second)
+ascii (b ∷ bs) h = let two = and_parts (nat_le b 127) (list_all (λ c. nat_le c 127) bs) h in behind_byte b bs (low b two.0) (ascii bs two.1)
 
 -- a backslash may stand before each double quote
 escaped_behind : (front bs : List ℕ) → IsUtf8 (front ++ bs) → IsUtf8 (front ++ escaped bs)
@@ -46,7 +46,7 @@ quoted_utf8 v u =
     IsUtf8-append (34 ∷ []) (escaped v ++ 34 ∷ []) quote (IsUtf8-append (escaped v) (34 ∷ []) (escaped_behind [] v u) quote)
 
 key_utf8 : (k : List ℕ) → IsUtf8 k → IsUtf8 (key_text k)
-key_utf8 k u = cond_both (is_name k && is_id (word_token k)) _ _ IsUtf8 (λ bare. u) (λ quoted. quoted_utf8 k u)
+key_utf8 k u = cond_both (is_name k && is_none (keyword k)) _ _ IsUtf8 (λ bare. u) (λ quoted. quoted_utf8 k u)
 
 pair_utf8 : (p : Pair) → PairTexts IsUtf8 p → IsUtf8 (pair_text p)
 pair_utf8 p h =

@@ -1,31 +1,19 @@
 -- A text without one of its ASCII bytes.
 use Rattle.std.proofs.Common.{◌≡◌, ℕ, ◌+◌, ◌<◌, refl, sym, ap, subst, ◌∙◌, List, [], ◌∷◌, ◌++◌, length, drop, get_or, IsUtf8, append_assoc, append-nil, arith, length-append}
 use Rattle.std.proofs.lemmas.Str.{IsUtf8-append, IsUtf8-take, IsUtf8-drop, IsCharBoundary-before_ascii, IsCharBoundary-after_ascii}
-use Rattle.std.proofs.Math.Seq.{take-append_seam, drop-append_seam}
-
--- the byte behind a list
-at_seam : (v w : List ℕ) (a : ℕ) → get_or (v ++ a ∷ w) (length v) 0 ≡ a
-at_seam [] w a = refl
-at_seam (x ∷ v) w a = at_seam v w a
+use Rattle.std.proofs.Math.Seq.{get_or-append_seam, take-append_seam, drop-append_seam}
+use Rattle.dot_text.specs.Scans.{KeepsValue, KeepsEscaped}
 
 pub without_ascii : (v w : List ℕ) (a : ℕ) → a < 128 → IsUtf8 (v ++ a ∷ w) → IsUtf8 (v ++ w)
 without_ascii v w a h u =
     let within : length v < length (v ++ a ∷ w) = omega (arith, length-append v (a ∷ w)) in
-    let small : get_or (v ++ a ∷ w) (length v) 0 < 128 = subst (λ z. z < 128) (sym (at_seam v w a)) h in
+    let small : get_or (v ++ a ∷ w) (length v) 0 < 128 = subst (λ z. z < 128) (sym (get_or-append_seam v a w 0)) h in
     let front : IsUtf8 v = subst IsUtf8 (take-append_seam v (a ∷ w)) (IsUtf8-take (v ++ a ∷ w) (length v) u (IsCharBoundary-before_ascii (v ++ a ∷ w) (length v) within small)) in
     let back : IsUtf8 (drop (length v + 1) (v ++ a ∷ w)) = IsUtf8-drop (v ++ a ∷ w) (length v + 1) u (IsCharBoundary-after_ascii (v ++ a ∷ w) (length v) u within small) in
     let one : length v + 1 ≡ length (v ++ a ∷ []) = omega (arith, length-append v (a ∷ [])) in
     let rest : drop (length v + 1) (v ++ a ∷ w) ≡ w =
     ap (λ k. drop k (v ++ a ∷ w)) one ∙ ap (drop (length (v ++ a ∷ []))) (sym (append_assoc v (a ∷ []) w)) ∙ drop-append_seam (v ++ a ∷ []) w in
     IsUtf8-append v w front (subst IsUtf8 rest back)
-
--- what is UTF-8 behind a text is UTF-8 behind its value
-abbrev pub KeepsValue : List ℕ → List ℕ → Type 0
-KeepsValue text v = (more : List ℕ) → IsUtf8 (text ++ more) → IsUtf8 (v ++ more)
-
--- the same where a backslash stands behind the value
-abbrev pub KeepsEscaped : List ℕ → List ℕ → Type 0
-KeepsEscaped text v = (more : List ℕ) → IsUtf8 (text ++ more) → IsUtf8 (v ++ 92 ∷ more)
 
 pub quote_opens : (v : List ℕ) (b : ℕ) → b ≡ 34 → v ≡ [] → KeepsValue (b ∷ []) v
 quote_opens v b e n more u = subst (λ z. IsUtf8 (z ++ more)) (sym n) (without_ascii [] more b (omega (arith, e)) u)

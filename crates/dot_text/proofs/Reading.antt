@@ -12,7 +12,7 @@ use Rattle.dot_text.specs.Documents.{doc_of, Stands, CanGoOn, Stuck, Stuck.ended
 use Rattle.dot_text.specs.Machine.{State, Begin, Whole, step, run}
 use Rattle.dot_text.specs.Reading.{Found, IsAnswer, Turn, Fails, Goes, Finds, behind_token, turn_at, go_on, reads, reading}
 use Rattle.std.proofs.Math.Seq.{drop-drop, drop-append_seam}
-use Rattle.dot_text.proofs.Tests.{differ}
+use Rattle.dot_text.proofs.Cases.{differ}
 use Rattle.dot_text.proofs.Running.{run_append, document_run}
 use Rattle.dot_text.proofs.Going.{Documented, whole_document, runs_on, can_run}
 use Rattle.dot_text.proofs.Scanned.{cut_of}

@@ -5,7 +5,7 @@ use Rattle.dot_text.specs.Grammar.{Pair, Kept, PairEnd.nothing as no_mark, PairE
 use Rattle.dot_text.specs.declared.doc.Doc.{Doc}
 use Rattle.dot_text.specs.Documents.{doc_of, keep}
 use Rattle.dot_text.proofs.Keeping.{keep_nil, keep_append}
-use Rattle.dot_text.specs.Machine.{Owner, OfNode, OfEdge, OfDefault, State, Begin, Ready, Ended, Word, Listed, Inside, Paired, Whole, kept_of, ready, step, run}
+use Rattle.dot_text.specs.Machine.{Owner, OfNode, OfEdge, OfDefault, State, Begin, Ready, Ended, Identified, Listed, Inside, Paired, Whole, kept_of, ready, step, run}
 
 run_none : (ts : List Token) → run None ts ≡ None
 run_none [] = refl
@@ -56,12 +56,12 @@ listed_ended l k d o ps [] h = absurd h
 listed_ended l k d o ps (OpenList ∷ ts) h = absurd h
 listed_ended l k d o ps (t ∷ ts) h = refl
 
-word_listed : (l k : ℕ) (d : Doc) (a : List ℕ) (ts : List Token) → Follows ts → run (Some (Word l k d a)) ts ≡ run (Some (Listed l k d (OfNode a) [])) ts
+identified_listed : (l k : ℕ) (d : Doc) (a : List ℕ) (ts : List Token) → Follows ts → run (Some (Identified l k d a)) ts ≡ run (Some (Listed l k d (OfNode a) [])) ts
 unfolding Follows
-word_listed l k d a [] h = absurd h
-word_listed l k d a (Arrow ∷ ts) h = absurd h
-word_listed l k d a (Equals ∷ ts) h = absurd h
-word_listed l k d a (t ∷ ts) h = refl
+identified_listed l k d a [] h = absurd h
+identified_listed l k d a (Arrow ∷ ts) h = absurd h
+identified_listed l k d a (Equals ∷ ts) h = absurd h
+identified_listed l k d a (t ∷ ts) h = refl
 
 paired_inside : {ts : List Token} {ps : List Pair} → Pairs ts ps → (l k : ℕ) (d : Doc) (o : Owner) (qs : List Pair) (more : List Token) → run (Some (Paired l k d o qs)) (ts ++ CloseList ∷ more) ≡ run (Some (Inside l k d o qs)) (ts ++ CloseList ∷ more)
 paired_inside no_pair l k d o qs more = refl
@@ -88,9 +88,9 @@ lists_run (list {ts = ts} {us = us} {ps = ps} {qs = rs} p q) l k d o qs more =
     ∙ lists_run q l k d o (qs ++ ps) more
     ∙ ap (λ z. run (Some (Listed l k d o z)) more) (append_assoc qs ps rs)
 
-word_lists : {ts : List Token} {ps : List Pair} → Lists ts ps → (l k : ℕ) (d : Doc) (a : List ℕ) (more : List Token) → Follows more → run (Some (Word l k d a)) (ts ++ more) ≡ run (Some (Ended l k (keep d (kept_of (OfNode a) ps)))) more
-word_lists no_list l k d a more f = word_listed l k d a more f ∙ listed_ended l k d (OfNode a) [] more f
-word_lists (list {ps = ps} {qs = rs} p q) l k d a more f = lists_run (list p q) l k d (OfNode a) [] more ∙ listed_ended l k d (OfNode a) (ps ++ rs) more f
+identified_lists : {ts : List Token} {ps : List Pair} → Lists ts ps → (l k : ℕ) (d : Doc) (a : List ℕ) (more : List Token) → Follows more → run (Some (Identified l k d a)) (ts ++ more) ≡ run (Some (Ended l k (keep d (kept_of (OfNode a) ps)))) more
+identified_lists no_list l k d a more f = identified_listed l k d a more f ∙ listed_ended l k d (OfNode a) [] more f
+identified_lists (list {ps = ps} {qs = rs} p q) l k d a more f = lists_run (list p q) l k d (OfNode a) [] more ∙ listed_ended l k d (OfNode a) (ps ++ rs) more f
 
 starts : {n : ℕ} {ts : List Token} {ks : List Kept} → Statement n ts ks → (more : List Token) → Starts (ts ++ more)
 unfolding Starts
@@ -118,7 +118,7 @@ end_follows end_semicolon ts h = tt
 
 mutual
   pub statement_run : {n : ℕ} {ts : List Token} {ks : List Kept} → Statement n ts ks → (k : ℕ) (d : Doc) (more : List Token) → Follows more → run (Some (Ready n k d)) (ts ++ more) ≡ run (Some (Ended n k (keep d ks))) more
-  statement_run (node {n = n} a p) k d more f = word_lists p n k d a more f
+  statement_run (node {n = n} a p) k d more f = identified_lists p n k d a more f
   statement_run (edge {n = n} {ps = ps} a b p) k d more f = lists_run p n k d (OfEdge a b) [] more ∙ listed_ended n k d (OfEdge a b) ps more f
   statement_run (default {n = n} {ts = ts} {us = us} {ps = ps} {qs = qs} p q) k d more f =
       ap (λ z. run (Some (Inside n k d OfDefault [])) z) (append_assoc ts (CloseList ∷ us) more)

@@ -1,24 +1,15 @@
 -- Blanks and comments end at one place, or at one comment that is not closed.
 use Rattle.std.proofs.Common.{◌≡◌, ℕ, zero, suc, ◌+◌, ◌<◌, ◌≤◌, refl, sym, ap, subst, ◌∙◌, ◌==◌, true, false, List, [], ◌∷◌, Option, Some, None, Result, length, drop, arith, eqb-true}
-use Rattle.std.proofs.lemmas.Bool.{cond_both}
+use Rattle.std.proofs.lemmas.Bool.{cond_both, and_parts}
 use Rattle.std.proofs.Math.Seq.{drop-length}
 use Rattle.dot_text.specs.Lexical.{begins_line}
 use Rattle.dot_text.specs.Scanner.{Cut, skips_block, block_of, Front, AtEnd, Skips, Gives, Faulty, front, front_at}
 use Rattle.dot_text.specs.Blanks.{BlankAt, Blanks, Blanks.none as no_blank, Blanks.skip, Unclosed, FirstByte, FirstByte.ended, FirstByte.byte, SkipsTo, SkipFails, IsSkip, opens, skip_on, skips, skipping}
-use Rattle.dot_text.proofs.Tests.{Both, both, differ}
+use Rattle.dot_text.proofs.Cases.{differ}
 use Rattle.dot_text.proofs.Scanned.{cut_of, skip_found}
 use Rattle.dot_text.proofs.Sound.{Sound, front_sound}
-use Rattle.dot_text.proofs.Places.{end_front}
+use Rattle.dot_text.proofs.Places.{blank_front, blank_unique, end_front}
 use Rattle.dot_text.proofs.Reading.{skipped_some, ended_at, behind_at, not_at_end}
-
-blank_front : {bytes : List ℕ} {p q : ℕ} (a : BlankAt bytes p q) → front_at bytes p ≡ Skips (cut_of a.text a.rest)
-blank_front {bytes = bytes} {p = p} a = ap (front (begins_line bytes p)) a.is ∙ skip_found a.skipped
-
-blank_unique : {bytes : List ℕ} {p q r : ℕ} → BlankAt bytes p q → BlankAt bytes p r → q ≡ r
-blank_unique {p = p} a b =
-    let e : Skips (cut_of a.text a.rest) ≡ Skips (cut_of b.text b.rest) = sym (blank_front a) ∙ blank_front b in
-    let cuts : cut_of a.text a.rest ≡ cut_of b.text b.rest = cc in
-    a.ends ∙ ap (λ z. p + length z.text) cuts ∙ sym b.ends
 
 pub blanks_more : {bytes : List ℕ} {p q r : ℕ} → Blanks bytes p q → BlankAt bytes q r → Blanks bytes p r
 blanks_more no_blank s = skip s no_blank
@@ -61,8 +52,8 @@ opened_is : (bs : List ℕ) → opens bs ≡ true → (rest : List ℕ) × (bs �
 opened_is [] h = differ false h refl
 opened_is (b ∷ []) h = differ false h refl
 opened_is (b ∷ c ∷ bs) h =
-    let two : Both (b == 47) (c == 42) = both (b == 47) (c == 42) h in
-    (bs, ap (λ z. z ∷ c ∷ bs) (eqb-true b 47 two.first) ∙ ap (λ z. 47 ∷ z ∷ bs) (eqb-true c 42 two.second))
+    let two = and_parts (b == 47) (c == 42) h in
+    (bs, ap (λ z. z ∷ c ∷ bs) (eqb-true b 47 two.0) ∙ ap (λ z. 47 ∷ z ∷ bs) (eqb-true c 42 two.1))
 
 no_blank_here : {bytes : List ℕ} {p : ℕ} (f : Front) → front_at bytes p ≡ f → ((c : Cut) → f ≡ Skips c → ⊥) → (q : ℕ) → BlankAt bytes p q → ⊥
 no_blank_here f e n q a = n (cut_of a.text a.rest) (sym e ∙ blank_front a)

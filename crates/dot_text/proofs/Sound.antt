@@ -1,15 +1,16 @@
 -- What the scanner finds stands by the definitions.
 use Rattle.std.proofs.Common.{◌≡◌, ℕ, refl, sym, ap, subst, ◌∙◌, Bool, true, false, not, ◌&&◌, ◌||◌, ◌==◌, List, [], ◌∷◌, ◌++◌, Option, Some, None, append_assoc, eqb-true}
-use Rattle.std.proofs.lemmas.Bool.{cond-true, cond_both}
+use Rattle.std.proofs.lemmas.Bool.{cond-true, cond_both, and_parts, not_from_false, or_left, and_from, or_from}
 use Rattle.std.specs.Char.{is_ascii_digit}
+use Rattle.std.specs.List.{list_all}
 use Rattle.dot_text.specs.Tokens.{Token, Id}
-use Rattle.dot_text.specs.Lexical.{is_blank, begins_name, is_in_name, is_by_numeral, is_in_line, all, stops, is_unsigned, is_numeral, is_plain, is_passed, Quotes, Quotes.nothing, Quotes.plain, Quotes.quote, Quotes.passed, mark_token, Spells, Spells.name, Spells.numeral, Spells.quoted, Spells.arrow, Spells.mark, closes, ends_star, Skipped, Skipped.blank, Skipped.slashes, Skipped.block, Skipped.hash}
+use Rattle.dot_text.specs.Lexical.{is_blank, begins_name, is_in_name, is_by_numeral, is_in_line, stops, is_unsigned, is_numeral, is_plain, is_passed, Quotes, Quotes.nothing, Quotes.plain, Quotes.quote, Quotes.passed, mark_token, Spells, Spells.name, Spells.numeral, Spells.quoted, Spells.arrow, Spells.mark, closes, ends_star, Skipped, Skipped.blank, Skipped.slashes, Skipped.block, Skipped.hash}
 use Rattle.dot_text.specs.Scanner.{Cut, before, run_of, Front, AtEnd, Skips, Gives, Faulty, block_before, block_of, Quoted, quoted_before, quoted_of, gives_name, gives_numeral, gives_quoted, gives_mark, behind_minus, skips_block, behind_slash, begins_number, front}
-use Rattle.dot_text.proofs.Tests.{Both, both, not_false, or_first, and_both, differ, is_at}
+use Rattle.dot_text.proofs.Cases.{differ, is_at}
 
 pub record RunIs (test : ℕ → Bool) (bs : List ℕ) (c : Cut) : Type 0 where
   pub is : bs ≡ c.text ++ c.rest
-  pub all : all test c.text ≡ true
+  pub all : list_all test c.text ≡ true
   pub stops : stops test c.rest ≡ true
 
 pub run_is : (test : ℕ → Bool) (bs : List ℕ) → RunIs test bs (run_of test bs)
@@ -17,8 +18,8 @@ run_is test [] = record { is = refl; all = refl; stops = refl }
 run_is test (b ∷ bs) =
     let r : RunIs test bs (run_of test bs) = run_is test bs in
     cond_both (test b) _ _ (λ c. RunIs test (b ∷ bs) c)
-    (λ h. record { is = ap (λ z. b ∷ z) r.is; all = and_both (test b) _ h r.all; stops = r.stops })
-    (λ h. record { is = refl; all = refl; stops = not_false (test b) h })
+    (λ h. record { is = ap (λ z. b ∷ z) r.is; all = and_from (test b) _ h r.all; stops = r.stops })
+    (λ h. record { is = refl; all = refl; stops = not_from_false (test b) h })
 
 abbrev pub Sound : Bool → List ℕ → Front → Type 0
 Sound line bs AtEnd = bs ≡ []
@@ -29,9 +30,9 @@ Sound line bs Faulty = Unit {0}
 name_sound : (line : Bool) (b : ℕ) (bs : List ℕ) → begins_name b ≡ true → Sound line (b ∷ bs) (gives_name (run_of is_in_name (b ∷ bs)))
 name_sound line b bs h =
     let r : RunIs is_in_name bs (run_of is_in_name bs) = run_is is_in_name bs in
-    let e : run_of is_in_name (b ∷ bs) ≡ before b (run_of is_in_name bs) = cond-true (is_in_name b) _ _ (or_first (begins_name b) (is_ascii_digit b) h) in
+    let e : run_of is_in_name (b ∷ bs) ≡ before b (run_of is_in_name bs) = cond-true (is_in_name b) _ _ (or_left (begins_name b) (is_ascii_digit b) h) in
     subst (λ c. Sound line (b ∷ bs) (gives_name c)) (sym e)
-    (ap (λ z. b ∷ z) r.is, name (b ∷ (run_of is_in_name bs).text) (and_both (begins_name b) _ h r.all) r.stops)
+    (ap (λ z. b ∷ z) r.is, name (b ∷ (run_of is_in_name bs).text) (and_from (begins_name b) _ h r.all) r.stops)
 
 unsigned_numeral : (w : List ℕ) → is_unsigned false w ≡ true → is_numeral w ≡ true
 unsigned_numeral [] u = u
@@ -135,22 +136,18 @@ abbrev BlockSome : Bool → List ℕ → Option Cut → Type 0
 BlockSome star bs None = Unit {0}
 BlockSome star bs (Some c) = BlockIs star bs c
 
-or_neither : (x y : Bool) → x ≡ false → y ≡ false → (x || y) ≡ false
-or_neither true y e f = e
-or_neither false y e f = f
-
 block_more : (star : Bool) (b : ℕ) (bs : List ℕ) (o : Option Cut) → (star && b == 47) ≡ false → BlockSome (b == 42) bs o → BlockSome star (b ∷ bs) (block_before b o)
 block_more star b bs None n h = tt
 block_more star b bs (Some c) n h =
-    record { body = b ∷ h.body; is = ap (λ z. b ∷ z) h.is; text = ap (λ z. b ∷ z) h.text; closes = or_neither (star && b == 47) _ n h.closes; ends = h.ends }
+    record { body = b ∷ h.body; is = ap (λ z. b ∷ z) h.is; text = ap (λ z. b ∷ z) h.text; closes = or_from (star && b == 47) _ n h.closes; ends = h.ends }
 
 block_is : (star : Bool) (bs : List ℕ) → BlockSome star bs (block_of star bs)
 block_is star [] = tt
 block_is star (b ∷ bs) =
     let ih : BlockSome (b == 42) bs (block_of (b == 42) bs) = block_is (b == 42) bs in
     cond_both (star && b == 47) _ _ (λ o. BlockSome star (b ∷ bs) o)
-    (λ h. let two : Both star (b == 47) = both star (b == 47) h in
-    record { body = []; is = ap (λ z. z ∷ bs) (eqb-true b 47 two.second); text = ap (λ z. z ∷ []) (eqb-true b 47 two.second); closes = refl; ends = two.first })
+    (λ h. let two = and_parts star (b == 47) h in
+    record { body = []; is = ap (λ z. z ∷ bs) (eqb-true b 47 two.1); text = ap (λ z. z ∷ []) (eqb-true b 47 two.1); closes = refl; ends = two.0 })
     (λ n. block_more star b bs (block_of (b == 42) bs) n ih)
 
 block_sound : (line : Bool) (bs : List ℕ) (o : Option Cut) → BlockSome false bs o → Sound line (47 ∷ 42 ∷ bs) (skips_block o)
@@ -190,5 +187,5 @@ front_sound line (b ∷ bs) =
     cond_both (b == 45) _ _ P (λ h. is_at (λ z. Sound line (z ∷ bs) (behind_minus bs)) b 45 (minus_sound line bs) h) (λ n.
     cond_both (b == 47) _ _ P (λ h. is_at (λ z. Sound line (z ∷ bs) (behind_slash bs)) b 47 (slash_sound line bs) h) (λ n.
     cond_both (b == 35 && line) _ _ P
-    (λ h. let two : Both (b == 35) line = both (b == 35) line h in is_at (λ z. Sound line (z ∷ bs) (Skips (before 35 (run_of is_in_line bs)))) b 35 (hash_sound line bs two.second) two.first)
+    (λ h. let two = and_parts (b == 35) line h in is_at (λ z. Sound line (z ∷ bs) (Skips (before 35 (run_of is_in_line bs)))) b 35 (hash_sound line bs two.1) two.0)
     (λ n. mark_sound line b bs (mark_token b) refl)))))))

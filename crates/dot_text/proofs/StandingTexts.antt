@@ -1,11 +1,12 @@
 -- The texts of a document that stands: each is what an ID stands for.
 use Rattle.std.proofs.Common.{◌≡◌, ℕ, refl, sym, subst, ◌==◌, Bool, true, false, if◌then◌else◌, List, [], ◌∷◌, ◌++◌, Some, None, codes, bytes_eq, IsUtf8, append_assoc, append-nil, arith, eqb-true}
-use Rattle.std.proofs.lemmas.Bool.{cond_both}
+use Rattle.std.proofs.lemmas.Bool.{cond_both, and_parts, and_from}
 use Rattle.std.proofs.lemmas.Bool.Decides.{nat_tests}
 use Rattle.std.specs.Str.{str_to_ascii_lowercase}
-use Rattle.std.specs.List.{AllByRecursion}
-use Rattle.dot_text.specs.Tokens.{Token, Id, Open, Close, OpenList, CloseList, Semicolon, Comma, Equals, word_token}
-use Rattle.dot_text.specs.Lexical.{is_plain, is_in_name, is_by_numeral, begins_name, all, is_name, is_numeral, is_unsigned, mark_token, Quotes, Quotes.nothing as no_bytes, Quotes.plain, Quotes.quote, Quotes.passed, Spells, Spells.name as bare, Spells.numeral, Spells.quoted, Spells.arrow, Spells.mark, Lexes, Lexes.none as no_token, Lexes.next}
+use Rattle.std.specs.List.{AllByRecursion, list_all}
+use Rattle.dot_text.specs.Tokens.{Token, Id, Open, Close, CloseList}
+use Rattle.dot_text.proofs.Cases.{words, marks}
+use Rattle.dot_text.specs.Lexical.{is_plain, is_in_name, is_by_numeral, begins_name, is_name, is_numeral, is_unsigned, mark_token, Quotes, Quotes.nothing as no_bytes, Quotes.plain, Quotes.quote, Quotes.passed, Spells, Spells.name as bare, Spells.numeral, Spells.quoted, Spells.arrow, Spells.mark, Lexes, Lexes.none as no_token, Lexes.next}
 use Rattle.dot_text.specs.Grammar.{Pair, Kept, Node, Edge, kept_node, Pairs, Pairs.none as no_pair, Pairs.pair, Lists, Lists.none as no_list, Lists.list, Statement, Statement.node, Statement.edge, Statement.default, Statement.set, Statement.subgraph, Statements, Statements.none as no_statement, Statements.some, Document, Document.document}
 use Rattle.dot_text.specs.declared.doc.Doc.{Doc}
 use Rattle.dot_text.specs.declared.doc.DocNode.{DocNode}
@@ -13,7 +14,6 @@ use Rattle.dot_text.specs.declared.doc.DocEdge.{DocEdge}
 use Rattle.dot_text.specs.Documents.{nodes_of, edges_of, doc_of, Stands}
 use Rattle.dot_text.specs.Printing.{CanBeQuoted, PairPrints, NodePrints, EdgePrints, HasPair, DocPrints}
 use Rattle.dot_text.specs.Texts.{PairTexts, NodeTexts, EdgeTexts, DocTexts}
-use Rattle.dot_text.proofs.Tests.{Both, both, and_both}
 use Rattle.dot_text.proofs.Scanned.{unsigned_all}
 use Rattle.dot_text.proofs.Quoted.{without_ascii}
 
@@ -105,9 +105,9 @@ record Written (v : List ℕ) : Type 0 where
   quoted : CanBeQuoted v
   utf8 : IsUtf8 v
 
-plain_quotes : (w : List ℕ) → all is_plain w ≡ true → Quotes w w
+plain_quotes : (w : List ℕ) → list_all is_plain w ≡ true → Quotes w w
 plain_quotes [] h = no_bytes
-plain_quotes (b ∷ w) h = let two : Both (is_plain b) (all is_plain w) = both (is_plain b) (all is_plain w) h in plain b two.first (plain_quotes w two.second)
+plain_quotes (b ∷ w) h = let two = and_parts (is_plain b) (list_all is_plain w) h in plain b two.0 (plain_quotes w two.1)
 
 name_byte : (b : ℕ) → is_in_name b ≡ true → is_plain b ≡ true
 name_byte b h = grind (arith, nat_tests)
@@ -118,24 +118,24 @@ first_byte b h = grind (arith, nat_tests)
 numeral_byte : (b : ℕ) → is_by_numeral b ≡ true → is_plain b ≡ true
 numeral_byte b h = grind (arith, nat_tests)
 
-all_plain : (test : ℕ → Bool) → ((b : ℕ) → test b ≡ true → is_plain b ≡ true) → (w : List ℕ) → all test w ≡ true → all is_plain w ≡ true
+all_plain : (test : ℕ → Bool) → ((b : ℕ) → test b ≡ true → is_plain b ≡ true) → (w : List ℕ) → list_all test w ≡ true → list_all is_plain w ≡ true
 all_plain test each [] h = refl
 all_plain test each (b ∷ w) h =
-    let two : Both (test b) (all test w) = both (test b) (all test w) h in
-    and_both (is_plain b) (all is_plain w) (each b two.first) (all_plain test each w two.second)
+    let two = and_parts (test b) (list_all test w) h in
+    and_from (is_plain b) (list_all is_plain w) (each b two.0) (all_plain test each w two.1)
 
-name_plain : (w : List ℕ) → is_name w ≡ true → all is_plain w ≡ true
+name_plain : (w : List ℕ) → is_name w ≡ true → list_all is_plain w ≡ true
 name_plain [] h = refl
 name_plain (b ∷ w) h =
-    let two : Both (begins_name b) (all is_in_name w) = both (begins_name b) (all is_in_name w) h in
-    and_both (is_plain b) (all is_plain w) (first_byte b two.first) (all_plain is_in_name name_byte w two.second)
+    let two = and_parts (begins_name b) (list_all is_in_name w) h in
+    and_from (is_plain b) (list_all is_plain w) (first_byte b two.0) (all_plain is_in_name name_byte w two.1)
 
-numeral_plain : (w : List ℕ) → is_numeral w ≡ true → all is_plain w ≡ true
+numeral_plain : (w : List ℕ) → is_numeral w ≡ true → list_all is_plain w ≡ true
 numeral_plain [] h = refl
 numeral_plain (b ∷ w) h = by (b == 45) refl h
   where
-    by : (r : Bool) → (b == 45) ≡ r → (if r then is_unsigned false w else is_unsigned false (b ∷ w)) ≡ true → all is_plain (b ∷ w) ≡ true
-    by true sign u = and_both (is_plain b) (all is_plain w) (subst (λ z. is_plain z ≡ true) (sym (eqb-true b 45 sign)) refl) (all_plain is_by_numeral numeral_byte w (unsigned_all false w u))
+    by : (r : Bool) → (b == 45) ≡ r → (if r then is_unsigned false w else is_unsigned false (b ∷ w)) ≡ true → list_all is_plain (b ∷ w) ≡ true
+    by true sign u = and_from (is_plain b) (list_all is_plain w) (subst (λ z. is_plain z ≡ true) (sym (eqb-true b 45 sign)) refl) (all_plain is_by_numeral numeral_byte w (unsigned_all false w u))
     by false sign u = all_plain is_by_numeral numeral_byte (b ∷ w) (unsigned_all false (b ∷ w) u)
 
 -- the value of a quoted text is UTF-8 where the text is, whatever stands on both sides
@@ -155,40 +155,15 @@ quoted_written {bs = bs} {v = v} q u =
     let ended : IsUtf8 (v ++ 34 ∷ []) = without_ascii [] (v ++ 34 ∷ []) 34 (omega arith) inner in
     record { quoted = record { bytes = bs; quotes = q }; utf8 = subst IsUtf8 (append-nil v) (without_ascii v [] 34 (omega arith) ended) }
 
-plain_written : (w : List ℕ) → all is_plain w ≡ true → IsUtf8 w → Written w
+plain_written : (w : List ℕ) → list_all is_plain w ≡ true → IsUtf8 w → Written w
 plain_written w h u = record { quoted = record { bytes = w; quotes = plain_quotes w h }; utf8 = u }
 
-word_written : (w : List ℕ) → Written w → OfToken Written (word_token w)
-word_written w h =
-    let P : Token → Type 0 = OfToken Written in
-    cond_both (bytes_eq (str_to_ascii_lowercase w) (codes "digraph")) _ _ P (λ e. tt) (λ n.
-    cond_both (bytes_eq (str_to_ascii_lowercase w) (codes "subgraph")) _ _ P (λ e. tt) (λ n.
-    cond_both (bytes_eq (str_to_ascii_lowercase w) (codes "graph")) _ _ P (λ e. tt) (λ n.
-    cond_both (bytes_eq (str_to_ascii_lowercase w) (codes "node")) _ _ P (λ e. tt) (λ n.
-    cond_both (bytes_eq (str_to_ascii_lowercase w) (codes "edge")) _ _ P (λ e. tt) (λ n.
-    cond_both (bytes_eq (str_to_ascii_lowercase w) (codes "strict")) _ _ P (λ e. tt) (λ n. h))))))
-
-mark_written : (b : ℕ) (t : Token) → mark_token b ≡ Some t → OfToken Written t
-mark_written b t =
-    let P : Token → Type 0 = OfToken Written in
-    let is : (u : Token) → P u → Some u ≡ Some t → P t = λ u h e. subst P (some_same u t e) h in
-    cond_both (b == 123) _ _ (λ o. o ≡ Some t → P t) (λ h. is Open tt) (λ n.
-    cond_both (b == 125) _ _ (λ o. o ≡ Some t → P t) (λ h. is Close tt) (λ n.
-    cond_both (b == 91) _ _ (λ o. o ≡ Some t → P t) (λ h. is OpenList tt) (λ n.
-    cond_both (b == 93) _ _ (λ o. o ≡ Some t → P t) (λ h. is CloseList tt) (λ n.
-    cond_both (b == 59) _ _ (λ o. o ≡ Some t → P t) (λ h. is Semicolon tt) (λ n.
-    cond_both (b == 44) _ _ (λ o. o ≡ Some t → P t) (λ h. is Comma tt) (λ n.
-    cond_both (b == 61) _ _ (λ o. o ≡ Some t → P t) (λ h. is Equals tt) (λ n e. let z : None ≡ Some t = e in absurd (cc))))))))
-  where
-    some_same : (u v : Token) → Some u ≡ Some v → u ≡ v
-    some_same u v e = cc
-
 token_written : {text rest : List ℕ} {t : Token} → Spells text rest t → IsUtf8 text → OfToken Written t
-token_written (bare w h s) u = word_written w (plain_written w (name_plain w h) u)
+token_written (bare w h s) u = words (OfToken Written) w tt tt tt tt (plain_written w (name_plain w h) u)
 token_written (numeral w h s) u = plain_written w (numeral_plain w h) u
 token_written (quoted q) u = quoted_written q u
 token_written arrow u = tt
-token_written (mark {t = t} b e) u = mark_written b t e
+token_written (mark {t = t} b e) u = marks (λ b t. OfToken Written t) tt tt tt tt tt tt tt b t e
 
 lexes_written : {bytes : List ℕ} {p s : ℕ} {ts : List Token} → Lexes bytes p ts s → Ids Written ts
 lexes_written no_token = tt

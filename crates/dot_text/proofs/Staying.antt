@@ -1,14 +1,13 @@
 -- A run of bytes that stay within an item.
 use Rattle.std.proofs.Common.{◌≡◌, ℕ, ◌+◌, ◌-◌, ◌≤◌, refl, sym, ap, subst, ◌∙◌, Bool, true, false, cond, ◌||◌, ◌==◌, List, [], ◌∷◌, ◌++◌, take, drop, slice_range, append-nil, append_assoc, arith}
-use Rattle.std.proofs.lemmas.Bool.{cond-true, cond-false}
+use Rattle.std.proofs.lemmas.Bool.{cond-true, cond-false, and_parts, or_parts, not-true, and_from}
 use Rattle.std.proofs.lemmas.List.{take-append-drop, drop-drop}
 use Rattle.std.proofs.Math.Seq.{take-add}
-use Rattle.std.specs.List.{prefix_len}
-use Rattle.dot_text.specs.Lexical.{is_in_name, is_by_numeral, is_in_line, all}
+use Rattle.std.specs.List.{prefix_len, list_all}
+use Rattle.dot_text.specs.Lexical.{is_in_name, is_by_numeral, is_in_line}
 use Rattle.dot_text.specs.Stream.{Mode, InName, InNumber, Minus, InQuotes, Slash, InLine, InBlock, Now, More, taken}
 use Rattle.dot_text.specs.Rests.{rest_front}
 use Rattle.dot_text.specs.Runs.{stays, stayed}
-use Rattle.dot_text.proofs.Tests.{Both, both, Neither, neither, not_true, and_both}
 use Rattle.dot_text.proofs.Stream.{TakenSo, taken_so}
 use Rattle.dot_text.proofs.Slices.{slice_join}
 
@@ -16,11 +15,11 @@ stays_taken : (m : Mode) (text : List ℕ) (b : ℕ) → stays m b ≡ true → 
 stays_taken InName text b h = cond-true (is_in_name b) _ _ h
 stays_taken InNumber text b h = cond-true (is_by_numeral b) _ _ h
 stays_taken InLine text b h = cond-true (is_in_line b) _ _ h
-stays_taken (InBlock false) text b h = ap (λ z. Now (More (InBlock z))) (not_true (b == 42) h)
+stays_taken (InBlock false) text b h = ap (λ z. Now (More (InBlock z))) (not-true (b == 42) h)
 stays_taken (InBlock true) text b h = let z : false ≡ true = h in cc
 stays_taken (InQuotes false v) text b h =
-    let n : Neither (b == 34) (b == 92) = neither (b == 34) (b == 92) (not_true (b == 34 || b == 92) h) in
-    cond-false (b == 34) _ _ n.first ∙ cond-false (b == 92) _ _ n.second
+    let n = or_parts (b == 34) (b == 92) (not-true (b == 34 || b == 92) h) in
+    cond-false (b == 34) _ _ n.0 ∙ cond-false (b == 92) _ _ n.1
 stays_taken (InQuotes true v) text b h = let z : false ≡ true = h in cc
 stays_taken Minus text b h = let z : false ≡ true = h in cc
 stays_taken Slash text b h = let z : false ≡ true = h in cc
@@ -59,21 +58,21 @@ rest_more : (m : Mode) (text : List ℕ) (b : ℕ) (bs : List ℕ) → stays m b
 rest_more m text b bs h = subst (λ z. TakenSo (rest_front m text (b ∷ bs)) text b bs z) (stays_taken m text b h) (taken_so m text b bs)
 
 -- what stands at the front is the same behind bytes that stay
-rest_all : (run rest : List ℕ) (m : Mode) (text : List ℕ) → all (stays m) run ≡ true → rest_front m text (run ++ rest) ≡ rest_front (stayed m run) (text ++ run) rest
+rest_all : (run rest : List ℕ) (m : Mode) (text : List ℕ) → list_all (stays m) run ≡ true → rest_front m text (run ++ rest) ≡ rest_front (stayed m run) (text ++ run) rest
 rest_all [] rest m text h = ap (λ z. rest_front z text rest) (sym (stayed_none m)) ∙ ap (λ z. rest_front (stayed m []) z rest) (sym (append-nil text))
 rest_all (b ∷ run) rest m text h =
-    let two : Both (stays m b) (all (stays m) run) = both (stays m b) (all (stays m) run) h in
-    rest_more m text b (run ++ rest) two.first
-    ∙ rest_all run rest (stayed m (b ∷ [])) (text ++ b ∷ []) (ap (λ test. all test run) (stays_stayed m (b ∷ [])) ∙ two.second)
+    let two = and_parts (stays m b) (list_all (stays m) run) h in
+    rest_more m text b (run ++ rest) two.0
+    ∙ rest_all run rest (stayed m (b ∷ [])) (text ++ b ∷ []) (ap (λ test. list_all test run) (stays_stayed m (b ∷ [])) ∙ two.1)
     ∙ ap (λ z. rest_front z ((text ++ b ∷ []) ++ run) rest) (stayed_more m b run)
     ∙ ap (λ z. rest_front (stayed m (b ∷ run)) z rest) (append_assoc text (b ∷ []) run)
 
-all_prefix : (test : ℕ → Bool) (bs : List ℕ) → all test (take (prefix_len test bs) bs) ≡ true
+all_prefix : (test : ℕ → Bool) (bs : List ℕ) → list_all test (take (prefix_len test bs) bs) ≡ true
 all_prefix test [] = refl
 all_prefix test (b ∷ bs) = by (test b) refl (all_prefix test bs)
   where
-    by : (x : Bool) → test b ≡ x → all test (take (prefix_len test bs) bs) ≡ true → all test (take (cond x (1 + prefix_len test bs) 0) (b ∷ bs)) ≡ true
-    by true e rest = ap (all test) (take-add 1 (prefix_len test bs) (b ∷ bs)) ∙ and_both (test b) (all test (take (prefix_len test bs) bs)) e rest
+    by : (x : Bool) → test b ≡ x → list_all test (take (prefix_len test bs) bs) ≡ true → list_all test (take (cond x (1 + prefix_len test bs) 0) (b ∷ bs)) ≡ true
+    by true e rest = ap (list_all test) (take-add 1 (prefix_len test bs) (b ∷ bs)) ∙ and_from (test b) (list_all test (take (prefix_len test bs) bs)) e rest
     by false e rest = refl
 
 -- the same over the bytes that are read

@@ -1,6 +1,6 @@
 -- Reading byte by byte finds the same.
 use Rattle.std.proofs.Common.{◌≡◌, ℕ, zero, suc, ◌+◌, ◌≤◌, inl, inr, refl, sym, ap, subst, ◌∙◌, ◌==◌, Bool, true, false, cond, ◌&&◌, ◌||◌, if◌then◌else◌, List, [], ◌∷◌, ◌++◌, Option, Some, None, Result, Ok, Err, length, drop, get_or, append-nil, append_assoc, arith, length-append}
-use Rattle.std.proofs.lemmas.Bool.{cond-true, cond-false, cond_both, eqb-true}
+use Rattle.std.proofs.lemmas.Bool.{cond-true, cond-false, cond_both, eqb-true, and_parts, or_left, or_right, or_cases}
 use Rattle.std.specs.Str.{is_utf8}
 use Rattle.dot_text.specs.Tokens.{Token, Id, Digraph, Subgraph, Default, Open, Close, OpenList, CloseList, Semicolon, Comma, Equals, Arrow, word_token}
 use Rattle.dot_text.proofs.Prefix.{word_no_close}
@@ -9,11 +9,11 @@ use Rattle.dot_text.specs.Scanner.{Cut, before, run_of, Front, AtEnd, Skips, Giv
 use Rattle.dot_text.specs.declared.doc.Doc.{Doc}
 use Rattle.dot_text.specs.Documents.{keep, doc_of, Stands, Place}
 use Rattle.dot_text.specs.Grammar.{Pair}
-use Rattle.dot_text.specs.Machine.{Owner, OfNode, OfEdge, OfDefault, State, Begin, Headed, Named, Ready, Ended, State.Word as AtWord, Pointed, Setting, Bare, Listed, Inside, Keyed, Valued, Paired, Whole, kept_of, ready, ended, listed, inside, step}
+use Rattle.dot_text.specs.Machine.{Owner, OfNode, OfEdge, OfDefault, State, Begin, Headed, Named, Ready, Ended, Identified, Pointed, Setting, Defaulted, Listed, Inside, Keyed, Equated, Paired, Whole, kept_of, ready, ended, listed, inside, step}
 use Rattle.dot_text.specs.Reading.{Found, IsAnswer, Turn, Fails, Goes, Finds, behind_token}
-use Rattle.dot_text.specs.Stream.{Mode, InName, InNumber, Minus, InQuotes, Slash, InLine, InBlock, Item, Blank, Word, Start, More, With, Bad, Taken, Now, Before, with_mark, starts, number_taken, taken, last_item, Scan, Between, Within, Step, Going, Over, front_with, item_turn, after_turn, begin, again, take_in, push, pushes, last_turn, finish_item, answer, reader_of}
+use Rattle.dot_text.specs.Stream.{Mode, InName, InNumber, Minus, InQuotes, Slash, InLine, InBlock, Item, Blank, Lexeme, Start, More, With, Bad, Taken, Now, Before, with_mark, starts, number_taken, taken, last_item, Scan, Between, Within, Step, Going, Over, front_with, item_turn, after_turn, begin, again, take_in, push, pushes, last_turn, finish_item, answer, reader_of}
 use Rattle.dot_text.specs.Rests.{onto, number_rest, quoted_rest, block_rest, slash_rest, minus_rest, rest_front}
-use Rattle.dot_text.proofs.Tests.{Both, both, or_first, or_second, one_of}
+use Rattle.dot_text.proofs.Cases.{digit_by}
 use Rattle.dot_text.proofs.Sound.{Sound, front_sound}
 use Rattle.dot_text.proofs.Reading.{Upto, Says, turn_says, start_upto, past_text}
 use Rattle.std.specs.Char.{is_ascii_digit, is_ascii_alphabetic}
@@ -130,9 +130,9 @@ mark_same b bs (Some t) = refl
 
 number_by : (b : ℕ) → begins_number b ≡ true → is_by_numeral b ≡ true
 number_by b h =
-    elim (one_of (is_ascii_digit b) (b == 46) h) [
-      | inl e ↦ or_first (is_ascii_digit b || is_ascii_alphabetic b || b == 95) (b == 46) (or_first (is_ascii_digit b || is_ascii_alphabetic b) (b == 95) (or_first (is_ascii_digit b) (is_ascii_alphabetic b) e))
-      | inr e ↦ or_second (is_ascii_digit b || is_ascii_alphabetic b || b == 95) (b == 46) e
+    elim (or_cases (is_ascii_digit b) (b == 46) h) [
+      | inl e ↦ digit_by b e
+      | inr e ↦ or_right (is_ascii_digit b || is_ascii_alphabetic b || b == 95) (b == 46) e
     ]
 
 number_no_minus : (b : ℕ) → begins_number b ≡ true → (b == 45) ≡ false
@@ -147,14 +147,14 @@ number_same b bs h =
 pub starts_so : (line : Bool) (b : ℕ) (bs : List ℕ) → StartsSo (front line (b ∷ bs)) [] b bs (starts line b)
 starts_so line b bs =
     let R : Front → Start → Type 0 = λ f x. StartsSo f [] b bs x in
-    cond_two R (begins_name b) _ _ _ _ (λ h. ap gives_name (cond-true (is_in_name b) _ _ (or_first (begins_name b) _ h))) (λ n.
+    cond_two R (begins_name b) _ _ _ _ (λ h. ap gives_name (cond-true (is_in_name b) _ _ (or_left (begins_name b) _ h))) (λ n.
     cond_two R (begins_number b) _ _ _ _ (λ h. number_same b bs h) (λ n.
     cond_two R (is_blank b) _ _ _ _ (λ h. refl) (λ n.
     cond_two R (b == 34) _ _ _ _ (λ h. quote_same (quoted_of false bs) ∙ ap (λ z. quoted_rest (z ∷ []) [] (quoted_of false bs)) (sym (eqb-true b 34 h))) (λ n.
     cond_two R (b == 45) _ _ _ _ (λ h. minus_same bs ∙ ap (λ z. minus_rest (z ∷ []) bs) (sym (eqb-true b 45 h))) (λ n.
     cond_two R (b == 47) _ _ _ _ (λ h. slash_same bs ∙ ap (λ z. slash_rest (z ∷ []) bs) (sym (eqb-true b 47 h))) (λ n.
     cond_two R (b == 35 && line) _ _ _ _
-    (λ h. let two : Both (b == 35) line = both (b == 35) line h in ap (λ z. Skips (before z (run_of is_in_line bs))) (sym (eqb-true b 35 two.first)))
+    (λ h. let two = and_parts (b == 35) line h in ap (λ z. Skips (before z (run_of is_in_line bs))) (sym (eqb-true b 35 two.0)))
     (λ n. mark_same b bs (mark_token b))))))))
 
 pub last_so : (m : Mode) (text : List ℕ) → ItemSo (rest_front m text []) text (last_item m text)
@@ -188,7 +188,7 @@ behind_goes p q (Some s) = refl
 
 item_goes : (p : ℕ) (s : State) (i : Item) (text : List ℕ) → GoesAt (p + length text) (item_turn p s i text)
 item_goes p s Blank text = cond_both (is_utf8 text) _ _ (λ z. GoesAt (p + length text) z) (λ h. refl) (λ h. tt)
-item_goes p s (Word t) text = cond_both (is_utf8 text) _ _ (λ z. GoesAt (p + length text) z) (λ h. behind_goes p (p + length text) (step s t)) (λ h. tt)
+item_goes p s (Lexeme t) text = cond_both (is_utf8 text) _ _ (λ z. GoesAt (p + length text) z) (λ h. behind_goes p (p + length text) (step s t)) (λ h. tt)
 
 combine : (bytes : List ℕ) (from p q : ℕ) (t : Turn) → Says bytes from p t → GoesAt q t → After bytes from q t
 unfolding Says After
@@ -201,9 +201,9 @@ pub item_after : {bytes : List ℕ} {from p : ℕ} {s : State} (u : Upto bytes f
 item_after {bytes = bytes} {from = from} {p = p} {s = s} u Blank text rest e =
     combine bytes from p (p + length text) (item_turn p s Blank text)
     (turn_says u (Skips (cut_of text rest)) e (subst (λ f. Sound (begins_line bytes p) (drop p bytes) f) e (front_sound (begins_line bytes p) (drop p bytes)))) (item_goes p s Blank text)
-item_after {bytes = bytes} {from = from} {p = p} {s = s} u (Word t) text rest e =
-    combine bytes from p (p + length text) (item_turn p s (Word t) text)
-    (turn_says u (Gives t (cut_of text rest)) e (subst (λ f. Sound (begins_line bytes p) (drop p bytes) f) e (front_sound (begins_line bytes p) (drop p bytes)))) (item_goes p s (Word t) text)
+item_after {bytes = bytes} {from = from} {p = p} {s = s} u (Lexeme t) text rest e =
+    combine bytes from p (p + length text) (item_turn p s (Lexeme t) text)
+    (turn_says u (Gives t (cut_of text rest)) e (subst (λ f. Sound (begins_line bytes p) (drop p bytes) f) e (front_sound (begins_line bytes p) (drop p bytes)))) (item_goes p s (Lexeme t) text)
 
 pub fails_here : {bytes : List ℕ} {from p : ℕ} {s : State} (u : Upto bytes from p s) → front_at bytes p ≡ Faulty → Place bytes from p
 unfolding Says
@@ -318,8 +318,8 @@ over_is bytes more r e =
 
 -- a document ends with a } alone
 ready_close : (l k : ℕ) (d ks : Doc) (t : Token) → ready l k d t ≡ Some (Whole ks) → t ≡ Close
-ready_close l k d ks (Id a) e = let z : Some (AtWord l k d a) ≡ Some (Whole ks) = e in cc
-ready_close l k d ks Default e = let z : Some (Bare l k d) ≡ Some (Whole ks) = e in cc
+ready_close l k d ks (Id a) e = let z : Some (Identified l k d a) ≡ Some (Whole ks) = e in cc
+ready_close l k d ks Default e = let z : Some (Defaulted l k d) ≡ Some (Whole ks) = e in cc
 ready_close (suc l) k d ks Subgraph e = let z : Some (Headed l (suc k) d) ≡ Some (Whole ks) = e in cc
 ready_close (suc l) k d ks Open e = let z : Some (Ready l (suc k) d) ≡ Some (Whole ks) = e in cc
 ready_close l k d ks Close e = refl
@@ -345,16 +345,16 @@ whole_close (Headed l k d) Open ks e = let z : Some (Ready l k d) ≡ Some (Whol
 whole_close (Named l k d) Open ks e = let z : Some (Ready l k d) ≡ Some (Whole ks) = e in cc
 whole_close (Ready l k d) t ks e = ready_close l k d ks t e
 whole_close (Ended l k d) t ks e = ended_close l k d ks t e
-whole_close (AtWord l k d a) Arrow ks e = let z : Some (Pointed l k d a) ≡ Some (Whole ks) = e in cc
-whole_close (AtWord l k d a) Equals ks e = let z : Some (Setting l k d) ≡ Some (Whole ks) = e in cc
-whole_close (AtWord l k d a) t ks e = listed_close l k d ks (OfNode a) [] t e
+whole_close (Identified l k d a) Arrow ks e = let z : Some (Pointed l k d a) ≡ Some (Whole ks) = e in cc
+whole_close (Identified l k d a) Equals ks e = let z : Some (Setting l k d) ≡ Some (Whole ks) = e in cc
+whole_close (Identified l k d a) t ks e = listed_close l k d ks (OfNode a) [] t e
 whole_close (Pointed l k d a) (Id b) ks e = let z : Some (Listed l k d (OfEdge a b) []) ≡ Some (Whole ks) = e in cc
 whole_close (Setting l k d) (Id b) ks e = let z : Some (Ended l k d) ≡ Some (Whole ks) = e in cc
-whole_close (Bare l k d) OpenList ks e = let z : Some (Inside l k d OfDefault []) ≡ Some (Whole ks) = e in cc
+whole_close (Defaulted l k d) OpenList ks e = let z : Some (Inside l k d OfDefault []) ≡ Some (Whole ks) = e in cc
 whole_close (Listed l k d o ps) t ks e = listed_close l k d ks o ps t e
 whole_close (Inside l k d o ps) t ks e = inside_close l k d ks o ps t e
-whole_close (Keyed l k d o ps a) Equals ks e = let z : Some (Valued l k d o ps a) ≡ Some (Whole ks) = e in cc
-whole_close (Valued l k d o ps a) (Id b) ks e = let z : Some (Paired l k d o (ps ++ (a, b) ∷ [])) ≡ Some (Whole ks) = e in cc
+whole_close (Keyed l k d o ps a) Equals ks e = let z : Some (Equated l k d o ps a) ≡ Some (Whole ks) = e in cc
+whole_close (Equated l k d o ps a) (Id b) ks e = let z : Some (Paired l k d o (ps ++ (a, b) ∷ [])) ≡ Some (Whole ks) = e in cc
 whole_close (Paired l k d o ps) Comma ks e = let z : Some (Inside l k d o ps) ≡ Some (Whole ks) = e in cc
 whole_close (Paired l k d o ps) Semicolon ks e = let z : Some (Inside l k d o ps) ≡ Some (Whole ks) = e in cc
 whole_close (Paired l k d o ps) t ks e = inside_close l k d ks o ps t e
@@ -365,7 +365,7 @@ behind_no p q None f n e = let z : Err p ≡ Ok f = e in cc
 behind_no p q (Some (Whole ks)) f n e = n ks refl
 behind_no p q (Some s) f n e = let z : Err q ≡ Ok f = e in cc
 
-word_no : (p : ℕ) (s : State) (t : Token) (text : List ℕ) (f : Found) → (t ≡ Close → ⊥) → last_turn (item_turn p s (Word t) text) ≡ Ok f → ⊥
+word_no : (p : ℕ) (s : State) (t : Token) (text : List ℕ) (f : Found) → (t ≡ Close → ⊥) → last_turn (item_turn p s (Lexeme t) text) ≡ Ok f → ⊥
 word_no p s t text f n =
     cond_both (is_utf8 text) _ _ (λ z. last_turn z ≡ Ok f → ⊥)
     (λ h e. behind_no p (p + length text) (step s t) f (λ ks w. n (whole_close s t ks w)) e)

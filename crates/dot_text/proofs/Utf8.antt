@@ -1,11 +1,12 @@
 -- The bytes of a document are UTF-8.
 use Rattle.std.proofs.Common.{◌≡◌, ℕ, ◌+◌, ◌-◌, refl, sym, ap, subst, ◌∙◌, List, [], ◌++◌, length, take, drop, IsUtf8, append_assoc, arith, length-append}
 use Rattle.std.proofs.lemmas.Str.{IsUtf8-append, IsUtf8-nil}
-use Rattle.std.proofs.Math.Seq.{take-append_seam, drop-drop, drop-append_seam}
+use Rattle.std.proofs.Math.Seq.{take-append_seam}
 use Rattle.dot_text.specs.Tokens.{Token}
 use Rattle.dot_text.specs.Lexical.{Gap, Gap.none as no_gap, Gap.skip, Lexes, Lexes.none as no_token, Lexes.next}
 use Rattle.dot_text.specs.declared.doc.Doc.{Doc}
 use Rattle.dot_text.specs.Documents.{Stands}
+use Rattle.dot_text.proofs.Reading.{past_text}
 
 -- the bytes from p to q
 record Bytes (bytes : List ℕ) (p q : ℕ) : Type 0 where
@@ -25,7 +26,7 @@ joined {bytes = bytes} {r = r} a b =
 
 one : {bytes : List ℕ} {p q : ℕ} (text rest : List ℕ) → drop p bytes ≡ text ++ rest → IsUtf8 text → q ≡ p + length text → Bytes bytes p q
 one {bytes = bytes} {p = p} {q = q} text rest e u h =
-    let there : drop q bytes ≡ rest = ap (λ z. drop z bytes) h ∙ sym (drop-drop (length text) p bytes) ∙ ap (drop (length text)) e ∙ drop-append_seam text rest in
+    let there : drop q bytes ≡ rest = ap (λ z. drop z bytes) h ∙ past_text bytes text rest p e in
     record { text = text; is = e ∙ ap (λ z. text ++ z) (sym there); utf8 = u; ends = h }
 
 nothing : {bytes : List ℕ} (p : ℕ) → Bytes bytes p p

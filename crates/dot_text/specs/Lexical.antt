@@ -1,6 +1,7 @@
 -- Which bytes spell a token, which are a blank or a comment, and the tokens that stand in some bytes.
 use Rattle.std.specs.Prelude.{◌≡◌, ℕ, zero, suc, ◌+◌, ◌==◌, nat_le, Bool, true, false, not, ◌&&◌, ◌||◌, if◌then◌else◌, IsTrue, IsFalse, List, [], ◌∷◌, ◌++◌, Option, Some, None, length, get_or, drop, IsUtf8}
 use Rattle.std.specs.Char.{is_ascii_digit, is_ascii_alphabetic}
+use Rattle.std.specs.List.{list_all}
 use Rattle.dot_text.specs.Tokens.{Token, Id, Open, Close, OpenList, CloseList, Semicolon, Comma, Equals, Arrow, word_token}
 
 -- space, tab, CR and LF
@@ -23,11 +24,6 @@ is_by_numeral b = is_ascii_digit b || is_ascii_alphabetic b || b == 95 || b == 4
 abbrev pub is_in_line : ℕ → Bool
 is_in_line b = not (b == 10)
 
--- each byte passes
-abbrev pub all : (ℕ → Bool) → List ℕ → Bool
-all test [] = true
-all test (b ∷ bs) = test b && all test bs
-
 -- the first byte, if there is one, does not pass
 abbrev pub stops : (ℕ → Bool) → List ℕ → Bool
 stops test [] = true
@@ -36,7 +32,7 @@ stops test (b ∷ bs) = not (test b)
 -- a name: no digit stands first
 abbrev pub is_name : List ℕ → Bool
 is_name [] = false
-is_name (b ∷ bs) = begins_name b && all is_in_name bs
+is_name (b ∷ bs) = begins_name b && list_all is_in_name bs
 
 -- there are no bytes
 abbrev pub is_empty : List ℕ → Bool
@@ -47,7 +43,7 @@ is_empty (b ∷ bs) = false
 abbrev pub is_unsigned : Bool → List ℕ → Bool
 is_unsigned some [] = some
 is_unsigned some (b ∷ bs) =
-    if b == 46 then all is_ascii_digit bs && (some || not (is_empty bs)) else is_ascii_digit b && is_unsigned true bs
+    if b == 46 then list_all is_ascii_digit bs && (some || not (is_empty bs)) else is_ascii_digit b && is_unsigned true bs
 
 -- an optional -, 45, and then the rest of a numeral
 abbrev pub is_numeral : List ℕ → Bool
@@ -102,9 +98,9 @@ ends_star star (b ∷ bs) = ends_star (b == 42) bs
 -- these bytes, before the rest, are a blank or a comment; line says that a line begins at them. 47 is /, and 35 is #
 pub data Skipped : Bool → List ℕ → List ℕ → Type 0 where
   blank : {line : Bool} {rest : List ℕ} (b : ℕ) → IsTrue (is_blank b) → Skipped line (b ∷ []) rest
-  slashes : {line : Bool} {rest : List ℕ} (w : List ℕ) → IsTrue (all is_in_line w) → IsTrue (stops is_in_line rest) → Skipped line (47 ∷ 47 ∷ w) rest
+  slashes : {line : Bool} {rest : List ℕ} (w : List ℕ) → IsTrue (list_all is_in_line w) → IsTrue (stops is_in_line rest) → Skipped line (47 ∷ 47 ∷ w) rest
   block : {line : Bool} {rest : List ℕ} (w : List ℕ) → IsFalse (closes false w) → IsTrue (ends_star false w) → Skipped line (47 ∷ 42 ∷ (w ++ 47 ∷ [])) rest
-  hash : {rest : List ℕ} (w : List ℕ) → IsTrue (all is_in_line w) → IsTrue (stops is_in_line rest) → Skipped true (35 ∷ w) rest
+  hash : {rest : List ℕ} (w : List ℕ) → IsTrue (list_all is_in_line w) → IsTrue (stops is_in_line rest) → Skipped true (35 ∷ w) rest
 
 -- a line begins at byte 0 and behind each LF
 abbrev pub begins_line : List ℕ → ℕ → Bool

@@ -12,7 +12,6 @@ pub mod Blanks
 pub mod Skip
 pub mod Laws
 pub mod States
-pub mod Keywords
 pub mod Scans
 pub mod Rests
 pub mod Runs

@@ -4,12 +4,8 @@ use Rattle.dot_text.specs.Tokens.{Token, Id, Digraph, Subgraph, Default, Open, C
 use Rattle.dot_text.specs.declared.doc.Doc.{Doc}
 use Rattle.dot_text.specs.Documents.{doc_of, keep}
 use Rattle.dot_text.specs.Grammar.{Pair, Kept, Edge, kept_node}
-
--- whose attribute lists they are
-pub data Owner : Type 0 where
-  OfNode : List ℕ → Owner
-  OfEdge : List ℕ → List ℕ → Owner
-  OfDefault : Owner
+pub use Rattle.dot_text.specs.declared.state.Owner.{Owner}
+pub use Rattle.dot_text.specs.declared.state.Owner.TheVariants.{OfNode, OfEdge, OfDefault}
 
 -- what is kept of a statement with these pairs
 abbrev pub kept_of : Owner → List Pair → List Kept
@@ -17,28 +13,42 @@ kept_of (OfNode a) ps = kept_node a ps
 kept_of (OfEdge a b) ps = Edge a b ps ∷ []
 kept_of OfDefault ps = []
 
--- where the reader stands within a document. l subgraphs may still be opened, and k are open
+-- where the reader stands, by what it read last. l subgraphs may still be opened, and k are open; the document is what is kept so far
 pub data State : Type 0 where
   Begin : State
+  -- digraph or subgraph
   Headed : (l k : ℕ) → Doc → State
+  -- the name of the graph or subgraph
   Named : (l k : ℕ) → Doc → State
+  -- {, or the ; behind a statement
   Ready : (l k : ℕ) → Doc → State
+  -- a statement that takes no attribute list
   Ended : (l k : ℕ) → Doc → State
-  Word : (l k : ℕ) → Doc → List ℕ → State
+  -- the ID that begins a statement
+  Identified : (l k : ℕ) → Doc → List ℕ → State
+  -- that ID and ->
   Pointed : (l k : ℕ) → Doc → List ℕ → State
+  -- that ID and =
   Setting : (l k : ℕ) → Doc → State
-  Bare : (l k : ℕ) → Doc → State
+  -- graph, node or edge
+  Defaulted : (l k : ℕ) → Doc → State
+  -- an attribute list, or what may be followed by the first one; these are the pairs so far
   Listed : (l k : ℕ) → Doc → Owner → List Pair → State
+  -- [, or the , or ; behind a pair
   Inside : (l k : ℕ) → Doc → Owner → List Pair → State
+  -- a key
   Keyed : (l k : ℕ) → Doc → Owner → List Pair → List ℕ → State
-  Valued : (l k : ℕ) → Doc → Owner → List Pair → List ℕ → State
+  -- a key and =
+  Equated : (l k : ℕ) → Doc → Owner → List Pair → List ℕ → State
+  -- a pair
   Paired : (l k : ℕ) → Doc → Owner → List Pair → State
+  -- the } of the document
   Whole : Doc → State
 
 -- where a statement or a } may stand
 abbrev pub ready : ℕ → ℕ → Doc → Token → Option State
-ready l k d (Id a) = Some (Word l k d a)
-ready l k d Default = Some (Bare l k d)
+ready l k d (Id a) = Some (Identified l k d a)
+ready l k d Default = Some (Defaulted l k d)
 ready (suc l) k d Subgraph = Some (Headed l (suc k) d)
 ready (suc l) k d Open = Some (Ready l (suc k) d)
 ready l zero d Close = Some (Whole d)
@@ -72,21 +82,21 @@ step (Named l k d) Open = Some (Ready l k d)
 step (Named l k d) t = None
 step (Ready l k d) t = ready l k d t
 step (Ended l k d) t = ended l k d t
-step (Word l k d a) Arrow = Some (Pointed l k d a)
-step (Word l k d a) Equals = Some (Setting l k d)
-step (Word l k d a) t = listed l k d (OfNode a) [] t
+step (Identified l k d a) Arrow = Some (Pointed l k d a)
+step (Identified l k d a) Equals = Some (Setting l k d)
+step (Identified l k d a) t = listed l k d (OfNode a) [] t
 step (Pointed l k d a) (Id b) = Some (Listed l k d (OfEdge a b) [])
 step (Pointed l k d a) t = None
 step (Setting l k d) (Id b) = Some (Ended l k d)
 step (Setting l k d) t = None
-step (Bare l k d) OpenList = Some (Inside l k d OfDefault [])
-step (Bare l k d) t = None
+step (Defaulted l k d) OpenList = Some (Inside l k d OfDefault [])
+step (Defaulted l k d) t = None
 step (Listed l k d o ps) t = listed l k d o ps t
 step (Inside l k d o ps) t = inside l k d o ps t
-step (Keyed l k d o ps a) Equals = Some (Valued l k d o ps a)
+step (Keyed l k d o ps a) Equals = Some (Equated l k d o ps a)
 step (Keyed l k d o ps a) t = None
-step (Valued l k d o ps a) (Id b) = Some (Paired l k d o (ps ++ (a, b) ∷ []))
-step (Valued l k d o ps a) t = None
+step (Equated l k d o ps a) (Id b) = Some (Paired l k d o (ps ++ (a, b) ∷ []))
+step (Equated l k d o ps a) t = None
 step (Paired l k d o ps) Comma = Some (Inside l k d o ps)
 step (Paired l k d o ps) Semicolon = Some (Inside l k d o ps)
 step (Paired l k d o ps) t = inside l k d o ps t

@@ -1,7 +1,7 @@
 -- The lines of a document, and which documents can be read again from their lines.
-use Rattle.std.specs.Prelude.{ℕ, ◌==◌, Bool, true, false, ◌&&◌, if◌then◌else◌, List, [], ◌∷◌, ◌++◌, codes}
+use Rattle.std.specs.Prelude.{ℕ, ◌==◌, ◌&&◌, if◌then◌else◌, List, [], ◌∷◌, ◌++◌, codes, is_none}
 use Rattle.std.specs.List.{AllByRecursion}
-use Rattle.dot_text.specs.Tokens.{Token, Id, word_token}
+use Rattle.dot_text.specs.Tokens.{keyword}
 use Rattle.dot_text.specs.Lexical.{is_name, Quotes}
 use Rattle.dot_text.specs.Grammar.{Pair}
 use Rattle.dot_text.specs.declared.doc.Doc.{Doc}
@@ -17,14 +17,9 @@ escaped (b ∷ bs) = if b == 34 then 92 ∷ b ∷ escaped bs else b ∷ escaped 
 abbrev pub in_quotes : List ℕ → List ℕ
 in_quotes bs = 34 ∷ (bs ++ 34 ∷ [])
 
--- the token is an ID
-abbrev pub is_id : Token → Bool
-is_id (Id a) = true
-is_id t = false
-
 -- a key is bare where it is a name and no keyword
 abbrev pub key_text : List ℕ → List ℕ
-key_text k = if is_name k && is_id (word_token k) then k else in_quotes (escaped k)
+key_text k = if is_name k && is_none (keyword k) then k else in_quotes (escaped k)
 
 -- key = "value"
 abbrev pub pair_text : Pair → List ℕ

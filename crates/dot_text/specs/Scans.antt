@@ -3,14 +3,13 @@ use Rattle.std.specs.Prelude.{ℕ, true, false, List, [], ◌∷◌, ◌++◌, I
 use Rattle.dot_text.specs.declared.scan.Mode.{Mode}
 use Rattle.dot_text.specs.declared.scan.Mode.TheVariants.{InName, InNumber, Minus, InQuotes, Slash, InLine, InBlock}
 use Rattle.dot_text.specs.declared.scan.Item.{Item}
-use Rattle.dot_text.specs.declared.scan.Item.TheVariants.{Blank, Id, Mark}
+use Rattle.dot_text.specs.declared.scan.Item.TheVariants.{Blank, Id, Fixed}
 use Rattle.dot_text.specs.declared.scan.Start.{Start}
 use Rattle.dot_text.specs.declared.scan.Start.TheVariants.{More, With, Bad}
 use Rattle.dot_text.specs.declared.scan.Taken.{Taken}
 use Rattle.dot_text.specs.declared.scan.Taken.TheVariants.{Now, Before}
 use Rattle.dot_text.specs.Tokens as tokens
 use Rattle.dot_text.specs.Stream as stream
-use Rattle.dot_text.specs.States.{token_of}
 
 abbrev pub mode_of : Mode → stream.Mode
 mode_of InName = stream.InName
@@ -23,8 +22,8 @@ mode_of (InBlock star) = stream.InBlock star
 
 abbrev pub item_of : Item → stream.Item
 item_of Blank = stream.Blank
-item_of (Id id) = stream.Word (tokens.Id id.items)
-item_of (Mark token) = stream.Word (token_of token)
+item_of (Id id) = stream.Lexeme (tokens.Id id.items)
+item_of (Fixed token) = stream.Lexeme token
 
 abbrev pub start_of : Start → stream.Start
 start_of (More mode) = stream.More (mode_of mode)
@@ -35,10 +34,18 @@ abbrev pub taken_of : Taken → stream.Taken
 taken_of (Now start) = stream.Now (start_of start)
 taken_of (Before item) = stream.Before (item_of item)
 
--- whatever follows, where it is UTF-8 behind the bytes so far, it is behind what they stand for
+-- whatever follows, where it is UTF-8 behind the bytes, it is behind what they stand for
+abbrev pub KeepsValue : List ℕ → List ℕ → Type 0
+KeepsValue text value = (more : List ℕ) → IsUtf8 (text ++ more) → IsUtf8 (value ++ more)
+
+-- the same where a backslash, 92, stands behind them, and is not yet part of what they stand for
+abbrev pub KeepsEscaped : List ℕ → List ℕ → Type 0
+KeepsEscaped text value = (more : List ℕ) → IsUtf8 (text ++ more) → IsUtf8 (value ++ 92 ∷ more)
+
+-- the same of the bytes of an item so far, within quotes
 abbrev pub Keeps : List ℕ → Mode → Type 0
-Keeps text (InQuotes true value) = (more : List ℕ) → IsUtf8 (text ++ more) → IsUtf8 (value.items ++ 92 ∷ more)
-Keeps text (InQuotes false value) = (more : List ℕ) → IsUtf8 (text ++ more) → IsUtf8 (value.items ++ more)
+Keeps text (InQuotes true value) = KeepsEscaped text value.items
+Keeps text (InQuotes false value) = KeepsValue text value.items
 Keeps text InName = Unit {0}
 Keeps text InNumber = Unit {0}
 Keeps text Minus = Unit {0}
@@ -50,7 +57,7 @@ Keeps text (InBlock star) = Unit {0}
 abbrev pub KeepsItem : List ℕ → Item → Type 0
 KeepsItem text (Id id) = IsUtf8 text → IsUtf8 id.items
 KeepsItem text Blank = Unit {0}
-KeepsItem text (Mark token) = Unit {0}
+KeepsItem text (Fixed token) = Unit {0}
 
 -- the same of what goes on or ends with a byte
 abbrev pub KeepsStart : List ℕ → ℕ → Start → Type 0

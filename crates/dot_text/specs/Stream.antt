@@ -19,7 +19,7 @@ pub data Mode : Type 0 where
 -- what has been read whole: blanks, or a token
 pub data Item : Type 0 where
   Blank : Item
-  Word : Token → Item
+  Lexeme : Token → Item
 
 -- what the next byte does to an item: it goes on with something, ends it, or is a fault
 pub data Start : Type 0 where
@@ -35,7 +35,7 @@ pub data Taken : Type 0 where
 -- a token of one byte, if it is one
 abbrev pub with_mark : Option Token → Start
 with_mark None = Bad
-with_mark (Some t) = With (Word t)
+with_mark (Some t) = With (Lexeme t)
 
 -- the first byte of an item
 abbrev pub starts : Bool → ℕ → Start
@@ -52,18 +52,18 @@ starts line b =
 -- the next byte of a numeral
 abbrev pub number_taken : List ℕ → ℕ → Taken
 number_taken text b =
-    if is_by_numeral b then Now (More InNumber) else (if is_numeral text then Before (Word (Id text)) else Now Bad)
+    if is_by_numeral b then Now (More InNumber) else (if is_numeral text then Before (Lexeme (Id text)) else Now Bad)
 
 -- the next byte of an item; text is its bytes so far
 abbrev pub taken : Mode → List ℕ → ℕ → Taken
-taken InName text b = if is_in_name b then Now (More InName) else Before (Word (word_token text))
+taken InName text b = if is_in_name b then Now (More InName) else Before (Lexeme (word_token text))
 taken InNumber text b = number_taken text b
-taken Minus text b = if b == 62 then Now (With (Word Arrow)) else number_taken text b
+taken Minus text b = if b == 62 then Now (With (Lexeme Arrow)) else number_taken text b
 taken (InQuotes true v) text b =
     if b == 10 || b == 13 then Now Bad
     else (if b == 34 then Now (More (InQuotes false (v ++ 34 ∷ []))) else Now (More (InQuotes false (v ++ 92 ∷ b ∷ []))))
 taken (InQuotes false v) text b =
-    if b == 34 then Now (With (Word (Id v)))
+    if b == 34 then Now (With (Lexeme (Id v)))
     else (if b == 92 then Now (More (InQuotes true v)) else Now (More (InQuotes false (v ++ b ∷ []))))
 taken Slash text b = if b == 47 then Now (More InLine) else (if b == 42 then Now (More (InBlock false)) else Now Bad)
 taken InLine text b = if is_in_line b then Now (More InLine) else Before Blank
@@ -71,8 +71,8 @@ taken (InBlock star) text b = if star && b == 47 then Now (With Blank) else Now 
 
 -- the item that ends where the bytes end
 abbrev pub last_item : Mode → List ℕ → Option Item
-last_item InName text = Some (Word (word_token text))
-last_item InNumber text = if is_numeral text then Some (Word (Id text)) else None
+last_item InName text = Some (Lexeme (word_token text))
+last_item InNumber text = if is_numeral text then Some (Lexeme (Id text)) else None
 last_item InLine text = Some Blank
 last_item m text = None
 
@@ -89,7 +89,7 @@ pub data Step : Type 0 where
 -- an item as the scanner has it
 abbrev pub front_with : Item → Cut → Front
 front_with Blank c = Skips c
-front_with (Word t) c = Gives t c
+front_with (Lexeme t) c = Gives t c
 
 -- the item of these bytes from p on is read
 abbrev pub item_turn : ℕ → State → Item → List ℕ → Turn

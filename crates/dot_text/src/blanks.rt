@@ -1,10 +1,8 @@
 ghost use Rattle.std.specs.Prelude.{◌≡◌, ◌≤◌, length, IfSome, MatchResult};
-ghost use Rattle.std.specs.List.{prefix_len};
-ghost use Rattle.dot_text.specs.Lexical.{is_in_line};
 ghost use Rattle.dot_text.specs.Blanks.{SkipsTo, SkipFails};
 ghost use Rattle.dot_text.specs.Skip.{BeginsAs, block_len_of};
 
-use crate::lexical::{begins_line, is_blank};
+use crate::lexical::{begins_line, is_blank, line_len};
 
 /// What bytes begin with, as far as blanks and comments go.
 enum Skip {
@@ -46,13 +44,6 @@ fn skip_of(bytes: &[u8], line: bool) -> Skip
         },
         _ => Skip::Nothing,
     }
-}
-
-/// How many bytes stand before the first LF, or how many there are.
-fn line_len(bytes: &[u8]) -> usize
-    ensures { result ≡ prefix_len is_in_line bytes.now }
-{
-    bytes.iter().take_while(|byte| **byte != b'\n').count()
 }
 
 /// How many bytes there are up to the first `*/` and with it, if there is one.

@@ -1,13 +1,12 @@
-//! Tests of bytes, and the tokens that words and marks are.
+//! Tests of bytes and of words, and the tokens that they are.
 
 ghost use Rattle.std.specs.Prelude.{◌≡◌, ◌≤◌, false, bytes_eq, length};
+ghost use Rattle.std.specs.List.{list_all, prefix_len};
 ghost use Rattle.std.specs.Char.{is_ascii_digit};
 ghost use Rattle.std.specs.Str.{is_utf8, str_to_ascii_lowercase};
-ghost use Rattle.std.specs.Option.{option_map};
-ghost use Rattle.dot_text.specs.Lexical.{begins_line, is_blank, begins_name, is_in_name, is_by_numeral, is_in_line, all, is_empty, is_unsigned, is_numeral, mark_token};
+ghost use Rattle.dot_text.specs.Lexical.{begins_line, is_blank, begins_name, is_in_name, is_by_numeral, is_in_line, is_name, is_unsigned, is_numeral, mark_token};
 ghost use Rattle.dot_text.specs.Scanner.{begins_number};
-ghost use Rattle.dot_text.specs.States.{token_of};
-ghost use Rattle.dot_text.specs.Keywords.{keyword};
+ghost use Rattle.dot_text.specs.Tokens.{keyword};
 
 use crate::token::Token;
 
@@ -55,15 +54,33 @@ pub(crate) fn is_in_line(byte: u8) -> bool
     byte != b'\n'
 }
 
-fn all_digits(bytes: &[u8]) -> bool
-    ensures { result ≡ all is_ascii_digit bytes.now }
+/// How many bytes stand before the first LF, or how many there are.
+pub(crate) fn line_len(bytes: &[u8]) -> usize
+    ensures { result ≡ prefix_len is_in_line bytes.now }
 {
-    for byte in bytes {
-        if !byte.is_ascii_digit() {
-            return false;
-        }
+    bytes.iter().take_while(|byte| is_in_line(**byte)).count()
+}
+
+/// Whether the bytes are a name: letters, `_`, digits and bytes from 128 on, with no digit first.
+pub(crate) fn is_name(bytes: &[u8]) -> bool
+    ensures { result ≡ is_name bytes.now }
+{
+    match bytes {
+        [first, rest @ ..] => begins_name(*first) && all_in_name(rest),
+        [] => false,
     }
-    true
+}
+
+fn all_in_name(bytes: &[u8]) -> bool
+    ensures { result ≡ list_all is_in_name bytes.now }
+{
+    bytes.iter().all(|byte| is_in_name(*byte))
+}
+
+fn all_digits(bytes: &[u8]) -> bool
+    ensures { result ≡ list_all is_ascii_digit bytes.now }
+{
+    bytes.iter().all(|byte| byte.is_ascii_digit())
 }
 
 /// Whether the bytes are `.` and digits, or digits with an optional `.` and further digits.
@@ -102,7 +119,7 @@ fn is_word(bytes: &[u8], word: &[u8]) -> bool
 
 /// The keyword that the bytes are, in any case.
 pub(crate) fn keyword(bytes: &[u8]) -> Option<Token>
-    ensures { option_map token_of result ≡ keyword bytes.now }
+    ensures { result ≡ keyword bytes.now }
 {
     if is_word(bytes, b"digraph") {
         Some(Token::Digraph)
@@ -122,7 +139,7 @@ pub(crate) fn keyword(bytes: &[u8]) -> Option<Token>
 }
 
 pub(crate) fn mark_token(byte: u8) -> Option<Token>
-    ensures { option_map token_of result ≡ mark_token byte }
+    ensures { result ≡ mark_token byte }
 {
     match byte {
         b'{' => Some(Token::Open),

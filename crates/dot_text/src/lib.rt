@@ -1,8 +1,6 @@
 //! Documents of the DOT profile.
 #![tactic(auto)]
 
-#[cfg(test)]
-mod blank_tests;
 mod blanks;
 mod depth;
 mod doc;
@@ -10,14 +8,12 @@ mod laws;
 mod lexical;
 mod machine;
 mod print;
-#[cfg(test)]
-mod print_tests;
 mod reader;
-#[cfg(test)]
-mod reader_tests;
 mod runs;
 mod scan;
 mod state;
+#[cfg(test)]
+mod tests;
 mod token;
 
 pub use blanks::skip_blank;

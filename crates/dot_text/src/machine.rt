@@ -5,7 +5,7 @@ ghost use Rattle.std.specs.Option.{option_map};
 ghost use Rattle.dot_text.specs.Tokens.{Close};
 ghost use Rattle.dot_text.specs.Documents.{keep};
 ghost use Rattle.dot_text.specs.Machine.{kept_of, ready, ended, listed, inside, step};
-ghost use Rattle.dot_text.specs.States.{token_of, owner_of, doc_so_far, spot_in, state_of};
+ghost use Rattle.dot_text.specs.States.{doc_so_far, spot_in, state_of};
 
 use crate::depth::Depth;
 use crate::doc::{Doc, DocEdge, DocNode};
@@ -58,11 +58,11 @@ fn closed(body: Body) -> State
 
 /// Where a statement or a `}` may stand.
 fn ready(body: Body, token: Token) -> Option<State>
-    ensures { option_map state_of result ≡ ready body.depth.left body.depth.nested (doc_so_far body) (token_of token) }
+    ensures { option_map state_of result ≡ ready body.depth.left body.depth.nested (doc_so_far body) token }
 {
     match token {
-        Token::Id(name) => Some(State::Within(body, Spot::Word(name))),
-        Token::Default => Some(State::Within(body, Spot::Bare)),
+        Token::Id(name) => Some(State::Within(body, Spot::Identified(name))),
+        Token::Default => Some(State::Within(body, Spot::Defaulted)),
         Token::Subgraph => Some(State::Within(deeper(body)?, Spot::Headed)),
         Token::Open => Some(State::Within(deeper(body)?, Spot::Ready)),
         Token::Close => Some(closed(body)),
@@ -72,7 +72,7 @@ fn ready(body: Body, token: Token) -> Option<State>
 
 /// Behind a statement.
 fn ended(body: Body, token: Token) -> Option<State>
-    ensures { option_map state_of result ≡ ended body.depth.left body.depth.nested (doc_so_far body) (token_of token) }
+    ensures { option_map state_of result ≡ ended body.depth.left body.depth.nested (doc_so_far body) token }
 {
     match token {
         Token::Semicolon => Some(State::Within(body, Spot::Ready)),
@@ -83,7 +83,7 @@ fn ended(body: Body, token: Token) -> Option<State>
 /// The body with the statement whose attribute lists ended.
 fn kept(body: Body, lists: Lists) -> Result<Body, NoMemory>
     ensures depth { IfOk result (λ after. after.depth ≡ body.depth) }
-    ensures doc { IfOk result (λ after. doc_so_far after ≡ keep (doc_so_far body) (kept_of (owner_of lists.owner) lists.pairs.items)) }
+    ensures doc { IfOk result (λ after. doc_so_far after ≡ keep (doc_so_far body) (kept_of lists.owner lists.pairs.items)) }
 {
     let Body {
         depth,
@@ -92,13 +92,13 @@ fn kept(body: Body, lists: Lists) -> Result<Body, NoMemory>
     } = body;
     let Lists { owner, pairs } = lists;
     match owner {
-        Owner::Node(name) => {
+        Owner::OfNode(name) => {
             if !pairs.is_empty() {
                 let pairs = Items::new(pairs);
                 nodes.push(DocNode { name, pairs })?;
             }
         }
-        Owner::Edge(source, target) => {
+        Owner::OfEdge(source, target) => {
             let pairs = Items::new(pairs);
             edges.push(DocEdge {
                 source,
@@ -106,7 +106,7 @@ fn kept(body: Body, lists: Lists) -> Result<Body, NoMemory>
                 pairs,
             })?;
         }
-        Owner::Default => {}
+        Owner::OfDefault => {}
     }
     Ok(Body {
         depth,
@@ -117,7 +117,7 @@ fn kept(body: Body, lists: Lists) -> Result<Body, NoMemory>
 
 /// Behind an attribute list, or where the first may stand.
 fn listed(body: Body, lists: Lists, token: Token) -> Result<Option<State>, NoMemory>
-    ensures { IfOk result (λ next. option_map state_of next ≡ listed body.depth.left body.depth.nested (doc_so_far body) (owner_of lists.owner) lists.pairs.items (token_of token)) }
+    ensures { IfOk result (λ next. option_map state_of next ≡ listed body.depth.left body.depth.nested (doc_so_far body) lists.owner lists.pairs.items token) }
 {
     match token {
         Token::OpenList => Ok(Some(State::Within(body, Spot::Inside(lists)))),
@@ -127,7 +127,7 @@ fn listed(body: Body, lists: Lists, token: Token) -> Result<Option<State>, NoMem
 
 /// In an attribute list, where a pair or the end may stand.
 fn inside(body: Body, lists: Lists, token: Token) -> Option<State>
-    ensures { option_map state_of result ≡ inside body.depth.left body.depth.nested (doc_so_far body) (owner_of lists.owner) lists.pairs.items (token_of token) }
+    ensures { option_map state_of result ≡ inside body.depth.left body.depth.nested (doc_so_far body) lists.owner lists.pairs.items token }
 {
     match token {
         Token::Id(key) => Some(State::Within(body, Spot::Keyed(lists, key))),
@@ -138,7 +138,7 @@ fn inside(body: Body, lists: Lists, token: Token) -> Option<State>
 
 /// Before all.
 fn begun(alloc: Global, token: Token) -> Option<State>
-    ensures { option_map state_of result ≡ step (state_of State.Begin) (token_of token) }
+    ensures { option_map state_of result ≡ step (state_of State.Begin) token }
 {
     match token {
         Token::Digraph => {
@@ -155,7 +155,7 @@ fn begun(alloc: Global, token: Token) -> Option<State>
 
 /// Behind `digraph` or `subgraph`.
 fn headed(body: Body, token: Token) -> Option<State>
-    ensures { option_map state_of result ≡ step (spot_in body Spot.Headed) (token_of token) }
+    ensures { option_map state_of result ≡ step (spot_in body Spot.Headed) token }
 {
     match token {
         Token::Id(_) => Some(State::Within(body, Spot::Named)),
@@ -166,7 +166,7 @@ fn headed(body: Body, token: Token) -> Option<State>
 
 /// Behind the name of a graph.
 fn named(body: Body, token: Token) -> Option<State>
-    ensures { option_map state_of result ≡ step (spot_in body Spot.Named) (token_of token) }
+    ensures { option_map state_of result ≡ step (spot_in body Spot.Named) token }
 {
     match token {
         Token::Open => Some(State::Within(body, Spot::Ready)),
@@ -175,20 +175,20 @@ fn named(body: Body, token: Token) -> Option<State>
 }
 
 /// Behind the first ID of a statement.
-fn behind_word(
+fn identified(
     alloc: Global,
     body: Body,
     name: Text,
     token: Token,
 ) -> Result<Option<State>, NoMemory>
-    ensures { IfOk result (λ next. option_map state_of next ≡ step (spot_in body (Spot.Word name)) (token_of token)) }
+    ensures { IfOk result (λ next. option_map state_of next ≡ step (spot_in body (Spot.Identified name)) token) }
 {
     match token {
         Token::Arrow => Ok(Some(State::Within(body, Spot::Pointed(name)))),
         Token::Equals => Ok(Some(State::Within(body, Spot::Setting))),
         token => {
             let lists = Lists {
-                owner: Owner::Node(name),
+                owner: Owner::OfNode(name),
                 pairs: Vec::new(alloc),
             };
             listed(body, lists, token)
@@ -198,12 +198,12 @@ fn behind_word(
 
 /// Behind an arrow.
 fn pointed(alloc: Global, body: Body, source: Text, token: Token) -> Option<State>
-    ensures { option_map state_of result ≡ step (spot_in body (Spot.Pointed source)) (token_of token) }
+    ensures { option_map state_of result ≡ step (spot_in body (Spot.Pointed source)) token }
 {
     match token {
         Token::Id(target) => {
             let lists = Lists {
-                owner: Owner::Edge(source, target),
+                owner: Owner::OfEdge(source, target),
                 pairs: Vec::new(alloc),
             };
             Some(State::Within(body, Spot::Listed(lists)))
@@ -214,7 +214,7 @@ fn pointed(alloc: Global, body: Body, source: Text, token: Token) -> Option<Stat
 
 /// Behind the `=` of a statement.
 fn setting(body: Body, token: Token) -> Option<State>
-    ensures { option_map state_of result ≡ step (spot_in body Spot.Setting) (token_of token) }
+    ensures { option_map state_of result ≡ step (spot_in body Spot.Setting) token }
 {
     match token {
         Token::Id(_) => Some(State::Within(body, Spot::Ended)),
@@ -223,13 +223,13 @@ fn setting(body: Body, token: Token) -> Option<State>
 }
 
 /// Behind `graph`, `node` or `edge`.
-fn bare(alloc: Global, body: Body, token: Token) -> Option<State>
-    ensures { option_map state_of result ≡ step (spot_in body Spot.Bare) (token_of token) }
+fn defaulted(alloc: Global, body: Body, token: Token) -> Option<State>
+    ensures { option_map state_of result ≡ step (spot_in body Spot.Defaulted) token }
 {
     match token {
         Token::OpenList => {
             let lists = Lists {
-                owner: Owner::Default,
+                owner: Owner::OfDefault,
                 pairs: Vec::new(alloc),
             };
             Some(State::Within(body, Spot::Inside(lists)))
@@ -240,17 +240,17 @@ fn bare(alloc: Global, body: Body, token: Token) -> Option<State>
 
 /// Behind the key of a pair.
 fn keyed(body: Body, lists: Lists, key: Text, token: Token) -> Option<State>
-    ensures { option_map state_of result ≡ step (spot_in body (Spot.Keyed lists key)) (token_of token) }
+    ensures { option_map state_of result ≡ step (spot_in body (Spot.Keyed lists key)) token }
 {
     match token {
-        Token::Equals => Some(State::Within(body, Spot::Valued(lists, key))),
+        Token::Equals => Some(State::Within(body, Spot::Equated(lists, key))),
         _ => None,
     }
 }
 
 /// Behind the `=` of a pair.
-fn valued(body: Body, lists: Lists, key: Text, token: Token) -> Result<Option<State>, NoMemory>
-    ensures { IfOk result (λ next. option_map state_of next ≡ step (spot_in body (Spot.Valued lists key)) (token_of token)) }
+fn equated(body: Body, lists: Lists, key: Text, token: Token) -> Result<Option<State>, NoMemory>
+    ensures { IfOk result (λ next. option_map state_of next ≡ step (spot_in body (Spot.Equated lists key)) token) }
 {
     match token {
         Token::Id(value) => {
@@ -264,7 +264,7 @@ fn valued(body: Body, lists: Lists, key: Text, token: Token) -> Result<Option<St
 
 /// Behind a pair.
 fn paired(body: Body, lists: Lists, token: Token) -> Option<State>
-    ensures { option_map state_of result ≡ step (spot_in body (Spot.Paired lists)) (token_of token) }
+    ensures { option_map state_of result ≡ step (spot_in body (Spot.Paired lists)) token }
 {
     match token {
         Token::Comma | Token::Semicolon => Some(State::Within(body, Spot::Inside(lists))),
@@ -279,28 +279,28 @@ fn step_within(
     spot: Spot,
     token: Token,
 ) -> Result<Option<State>, NoMemory>
-    ensures { IfOk result (λ next. option_map state_of next ≡ step (spot_in body spot) (token_of token)) }
+    ensures { IfOk result (λ next. option_map state_of next ≡ step (spot_in body spot) token) }
 {
     match spot {
         Spot::Headed => Ok(headed(body, token)),
         Spot::Named => Ok(named(body, token)),
         Spot::Ready => Ok(ready(body, token)),
         Spot::Ended => Ok(ended(body, token)),
-        Spot::Word(name) => behind_word(alloc, body, name, token),
+        Spot::Identified(name) => identified(alloc, body, name, token),
         Spot::Pointed(source) => Ok(pointed(alloc, body, source, token)),
         Spot::Setting => Ok(setting(body, token)),
-        Spot::Bare => Ok(bare(alloc, body, token)),
+        Spot::Defaulted => Ok(defaulted(alloc, body, token)),
         Spot::Listed(lists) => listed(body, lists, token),
         Spot::Inside(lists) => Ok(inside(body, lists, token)),
         Spot::Keyed(lists, key) => Ok(keyed(body, lists, key, token)),
-        Spot::Valued(lists, key) => valued(body, lists, key, token),
+        Spot::Equated(lists, key) => equated(body, lists, key, token),
         Spot::Paired(lists) => Ok(paired(body, lists, token)),
     }
 }
 
 /// The state behind a token, or `None` where it cannot follow. The only error is want of memory.
 pub(crate) fn step(alloc: Global, state: State, token: Token) -> Result<Option<State>, NoMemory>
-    ensures { IfOk result (λ next. option_map state_of next ≡ step (state_of state) (token_of token)) }
+    ensures { IfOk result (λ next. option_map state_of next ≡ step (state_of state) token) }
 {
     match state {
         State::Begin => Ok(begun(alloc, token)),

@@ -1,13 +1,10 @@
-ghost use Rattle.std.specs.Prelude.{◌≡◌, [], ◌++◌, not, ◌==◌, if◌then◌else◌, IfOk, OnOk, length, string_bytes, codes, bytes_eq};
-ghost use Rattle.std.specs.List.{list_all};
+ghost use Rattle.std.specs.Prelude.{◌≡◌, [], ◌++◌, ◌==◌, if◌then◌else◌, IfOk, OnOk, length, string_bytes, codes};
 ghost use Rattle.std.specs.Char.{encode_utf8};
-ghost use Rattle.std.specs.Str.{str_to_ascii_lowercase};
-ghost use Rattle.dot_text.specs.Tokens.{word_token};
-ghost use Rattle.dot_text.specs.Lexical.{begins_name, is_in_name, is_name};
 ghost use Rattle.dot_text.specs.Documents.{Stands};
-ghost use Rattle.dot_text.specs.Printing.{escaped, in_quotes, is_id, key_text, pair_text, pairs_text, node_line, edge_line, node_lines, edge_lines, printed, DocPrints};
+ghost use Rattle.dot_text.specs.Printing.{escaped, in_quotes, key_text, pair_text, pairs_text, node_line, edge_line, node_lines, edge_lines, printed, DocPrints};
 
 use crate::doc::{Doc, DocEdge, DocNode};
+use crate::lexical::{is_name, keyword};
 use port_types::{NoMemory, Text};
 use std::alloc::Global;
 
@@ -107,7 +104,7 @@ fn push_pair(out: &mut String, pair: &(Text, Text)) -> Result<(), NoMemory>
 fn push_key(out: &mut String, key: &Text) -> Result<(), NoMemory>
     ensures { OnOk result (string_bytes out.new ≡ string_bytes out.old ++ key_text key.now) }
 {
-    if is_name(key.bytes()) && !is_keyword(key.as_str()) {
+    if is_name(key.bytes()) && keyword(key.bytes()).is_none() {
         out.push_str(key.as_str())?;
         Ok(())
     } else {
@@ -145,51 +142,4 @@ fn push_escaped_char(out: &mut String, c: char) -> Result<(), NoMemory>
         out.push(c)?;
     }
     Ok(())
-}
-
-/// Whether the bytes are a name: letters, `_`, digits and bytes from 128 on, with no digit first.
-fn is_name(bytes: &[u8]) -> bool
-    ensures { result ≡ is_name bytes.now }
-{
-    match bytes {
-        [first, rest @ ..] => begins_name(*first) && all_in_name(rest),
-        [] => false,
-    }
-}
-
-fn all_in_name(bytes: &[u8]) -> bool
-    ensures { result ≡ list_all is_in_name bytes.now }
-{
-    bytes.iter().all(|byte| is_in_name(*byte))
-}
-
-fn begins_name(byte: u8) -> bool
-    ensures { result ≡ begins_name byte }
-{
-    byte.is_ascii_alphabetic() || byte == b'_' || byte >= 128
-}
-
-fn is_in_name(byte: u8) -> bool
-    ensures { result ≡ is_in_name byte }
-{
-    begins_name(byte) || byte.is_ascii_digit()
-}
-
-/// Whether the word is a keyword, in any case.
-fn is_keyword(word: &str) -> bool
-    ensures { result ≡ not (is_id (word_token word.now)) }
-{
-    same_word(word, "digraph")
-        || same_word(word, "subgraph")
-        || same_word(word, "graph")
-        || same_word(word, "node")
-        || same_word(word, "edge")
-        || same_word(word, "strict")
-}
-
-/// Whether two words differ in the case of their letters at most.
-fn same_word(word: &str, other: &str) -> bool
-    ensures { result ≡ bytes_eq (str_to_ascii_lowercase word.now) (str_to_ascii_lowercase other.now) }
-{
-    word.eq_ignore_ascii_case(other)
 }

@@ -75,7 +75,7 @@ fn read_item(
     }
     match item {
         Item::Blank => Ok(Turn::Goes(state)),
-        Item::Mark(token) => Ok(token_turn(step(alloc, state, token)?)),
+        Item::Fixed(token) => Ok(token_turn(step(alloc, state, token)?)),
         Item::Id(id) => {
             let id = text_of(id);
             Ok(token_turn(step(alloc, state, Token::Id(id))?))

@@ -3,11 +3,11 @@
 
 ghost use Rattle.std.specs.Prelude.{◌≡◌, ◌+◌, ◌≤◌, ℕ, List, ◌++◌, true, false, IfOk, length, drop, slice_range};
 ghost use Rattle.std.specs.List.{prefix_len};
-ghost use Rattle.dot_text.specs.Lexical.{is_in_name, is_by_numeral, is_in_line, is_plain};
+ghost use Rattle.dot_text.specs.Lexical.{is_in_name, is_by_numeral, is_plain};
 ghost use Rattle.dot_text.specs.Scans.{Keeps, mode_of};
 ghost use Rattle.dot_text.specs.Runs.{is_no_star, stays, stayed};
 
-use crate::lexical::{is_by_numeral, is_in_line, is_in_name};
+use crate::lexical::{is_by_numeral, is_in_name, line_len};
 use crate::scan::Mode;
 use port_types::NoMemory;
 
@@ -26,13 +26,6 @@ fn numeral_len(bytes: &[u8]) -> usize
         .iter()
         .take_while(|byte| is_by_numeral(**byte))
         .count()
-}
-
-/// How many bytes stand before the first LF, or how many there are.
-fn line_len(bytes: &[u8]) -> usize
-    ensures { result ≡ prefix_len is_in_line bytes.now }
-{
-    bytes.iter().take_while(|byte| is_in_line(**byte)).count()
 }
 
 /// How many bytes stand before the first `*`, or how many there are.

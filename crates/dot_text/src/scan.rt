@@ -4,7 +4,7 @@ ghost use Rattle.std.specs.Prelude.{◌≡◌, ℕ, List, [], true, false, IfOk,
 ghost use Rattle.std.specs.Option.{option_map};
 ghost use Rattle.dot_text.specs.Lexical.{mark_token};
 ghost use Rattle.dot_text.specs.Stream as stream;
-ghost use Rattle.dot_text.specs.Tokens as tokens;
+ghost use Rattle.dot_text.specs.Tokens.{word_token};
 ghost use Rattle.dot_text.specs.Scans.{Keeps, KeepsItem, KeepsStart, KeepsTaken, mode_of, item_of, start_of, taken_of};
 
 use crate::lexical::{
@@ -32,7 +32,7 @@ pub(crate) enum Mode {
 pub(crate) enum Item {
     Blank,
     Id(Vec<u8>),
-    Mark(Token),
+    Fixed(Token),
 }
 
 /// What a byte does: it goes on with something, ends it, or is a fault.
@@ -79,14 +79,14 @@ fn mark_start(byte: u8) -> Start
     ensures keeps { KeepsStart [] byte result }
 {
     match mark_token(byte) {
-        Some(token) => Start::With(Item::Mark(token)),
+        Some(token) => Start::With(Item::Fixed(token)),
         None => Start::Bad,
     }
 }
 
 /// The ID of these bytes.
 fn id_of(alloc: Global, text: &[u8]) -> Result<Item, NoMemory>
-    ensures same { IfOk result (λ item. item_of item ≡ stream.Word (tokens.Id text.now)) }
+    ensures same { IfOk result (λ item. item_of item ≡ stream.Lexeme (Token.Id text.now)) }
     ensures keeps { IfOk result (λ item. KeepsItem text.now item) }
 {
     let id = Vec::from_slice(alloc, text)?;
@@ -95,11 +95,11 @@ fn id_of(alloc: Global, text: &[u8]) -> Result<Item, NoMemory>
 
 /// The token of a bare word.
 fn word(alloc: Global, text: &[u8]) -> Result<Item, NoMemory>
-    ensures same { IfOk result (λ item. item_of item ≡ stream.Word (tokens.word_token text.now)) }
+    ensures same { IfOk result (λ item. item_of item ≡ stream.Lexeme (word_token text.now)) }
     ensures keeps { IfOk result (λ item. KeepsItem text.now item) }
 {
     match keyword(text) {
-        Some(token) => Ok(Item::Mark(token)),
+        Some(token) => Ok(Item::Fixed(token)),
         None => id_of(alloc, text),
     }
 }
@@ -122,7 +122,7 @@ fn minus_taken(alloc: Global, text: &[u8], byte: u8) -> Result<Taken, NoMemory>
     ensures keeps { IfOk result (λ t. KeepsTaken text.now byte t) }
 {
     if byte == b'>' {
-        return Ok(Taken::Now(Start::With(Item::Mark(Token::Arrow))));
+        return Ok(Taken::Now(Start::With(Item::Fixed(Token::Arrow))));
     }
     number_taken(alloc, text, byte)
 }

@@ -2,12 +2,12 @@ use crate::depth::Depth;
 use crate::doc::{Doc, DocEdge, DocNode};
 use port_types::Text;
 
-/// Whose attribute lists they are.
+/// Whose attribute lists they are: a node's, an edge's by the names at its ends, or a default's, which are not kept.
 #[derive(Drop)]
 pub(crate) enum Owner {
-    Node(Text),
-    Edge(Text, Text),
-    Default,
+    OfNode(Text),
+    OfEdge(Text, Text),
+    OfDefault,
 }
 
 /// An owner and the pairs of its attribute lists so far.
@@ -17,21 +17,34 @@ pub(crate) struct Lists {
     pub(crate) pairs: Vec<(Text, Text)>,
 }
 
-/// What was read last within the braces or before them.
+/// What was read last within a document.
 #[derive(Drop)]
 pub(crate) enum Spot {
+    /// `digraph` or `subgraph`.
     Headed,
+    /// The name of the graph or subgraph.
     Named,
+    /// `{`, or the `;` behind a statement.
     Ready,
+    /// A statement that takes no attribute list.
     Ended,
-    Word(Text),
+    /// The ID that begins a statement.
+    Identified(Text),
+    /// That ID and `->`.
     Pointed(Text),
+    /// That ID and `=`.
     Setting,
-    Bare,
+    /// `graph`, `node` or `edge`.
+    Defaulted,
+    /// An attribute list, or what may be followed by the first one.
     Listed(Lists),
+    /// `[`, or the `,` or `;` behind a pair.
     Inside(Lists),
+    /// A key.
     Keyed(Lists, Text),
-    Valued(Lists, Text),
+    /// A key and `=`.
+    Equated(Lists, Text),
+    /// A pair.
     Paired(Lists),
 }
 
@@ -43,7 +56,7 @@ pub(crate) struct Body {
     pub(crate) edges: Vec<DocEdge>,
 }
 
-/// Where the reader stands within a document.
+/// Where the reader stands: before the document, within it, or behind it.
 #[derive(Drop)]
 pub(crate) enum State {
     Begin,

@@ -1,4 +1,4 @@
-use Rattle.dot_text.proofs.Answered.{stands_within}
+use Rattle.dot_text.proofs.AtOnce.{stands_within}
 use Rattle.dot_text.proofs.reader.read_doc.Goals as goal
 
 pub returns-in-Ok-Found-clause-within : goal.returns-in-Ok-Found-clause-within
