@@ -7,8 +7,8 @@ use Rattle.std.proofs.lemmas.List.Elements.{All-contains}
 use Rattle.std.proofs.lemmas.Option.{same_Some}
 use Rattle.std.proofs.lemmas.Slice.Eq.{bytes_eq-Decides}
 use Rattle.graph_core.specs.Name.{name_cmp}
-use Rattle.graph_core.proofs.Options.{none_some, same_answers}
-use Rattle.graph_core.proofs.Maps.{same_key, other_key, key_cases}
+use Rattle.graph_core.proofs.Options.{same_answers}
+use Rattle.graph_core.proofs.Maps.{contains_found, found_at}
 use Rattle.graph_core.proofs.Orders.{name_total, name_same}
 
 -- two lists of numbers
@@ -45,34 +45,11 @@ AreDistinct = AllPairs (λ a b. a.0 ≢ b.0)
 abbrev pub kept_map : List Pair → FinMap name_cmp (List ℕ)
 kept_map es = from_entries es
 
--- what is found stands in the list
-pub contains_found : (es : List Pair) (key value : List ℕ) → find name_cmp key es ≡ Some value → Contains es (key, value)
-contains_found [] key value found = absurd (none_some value refl found)
-contains_found (e ∷ es) key value found =
-    elim (key_cases name_total name_same key e.0) [
-      | inl one ↦
-          let same : e.1 ≡ value = same_Some e.1 value (ap (λ b. cond b (Some e.1) (find name_cmp key es)) (sym one.test) ∙ found) in
-          (0, omega arith, λ i. (sym one.is i, same i))
-      | inr two ↦
-          let later = contains_found es key value (ap (λ b. cond b (Some e.1) (find name_cmp key es)) (sym two.test) ∙ found) in
-          (suc later.0, omega (arith, later.1), later.2)
-    ]
-
--- where no two have one key, what stands in the list is found
-pub found_at : (es : List Pair) → AreDistinct es → (k : ℕ) (d : Pair) → k < length es → find name_cmp (get_or es k d).0 es ≡ Some (get_or es k d).1
-found_at [] distinct k d within = absurd (omega arith)
-found_at (e ∷ es) distinct zero d within = ap (λ b. cond b (Some e.1) (find name_cmp e.0 es)) (same_key name_total name_same e.0 e.0 refl)
-found_at (e ∷ es) distinct (suc k) d within =
-    let key = (get_or es k d).0 in
-    let apart : key ≢ e.0 = λ is. distinct 0 (suc k) d (omega arith) within (sym is) in
-    ap (λ b. cond b (Some e.1) (find name_cmp key es)) (other_key name_total name_same key e.0 apart)
-    ∙ found_at es (λ i j x below inside. distinct (suc i) (suc j) x (omega arith) (omega arith)) k d (omega arith)
-
 -- where each attribute of one list stands in the other, what is found in the one is found in the other
 found_among : (es fs : List Pair) → AreDistinct fs → All (Contains fs) es → (key value : List ℕ) → find name_cmp key es ≡ Some value → find name_cmp key fs ≡ Some value
 found_among es fs distinct each key value found =
-    let there = All-contains (Contains fs) es (key, value) each (contains_found es key value found) in
-    ap (λ (e : Pair). find name_cmp e.0 fs) (sym there.2) ∙ found_at fs distinct there.0 (key, value) there.1 ∙ ap (λ (e : Pair). Some e.1) there.2
+    let there = All-contains (Contains fs) es (key, value) each (contains_found name_total name_same es key value found) in
+    ap (λ (e : Pair). find name_cmp e.0 fs) (sym there.2) ∙ found_at name_total name_same fs distinct there.0 (key, value) there.1 ∙ ap (λ (e : Pair). Some e.1) there.2
 
 pub same_where_among : (es fs : List Pair) → AreDistinct es → AreDistinct fs → All (Contains fs) es → All (Contains es) fs → kept_map es ≡ kept_map fs
 same_where_among es fs distinct other each back =
@@ -83,5 +60,5 @@ pub among_where_same : (es fs : List Pair) → AreDistinct es → kept_map es �
 among_where_same es fs distinct same = λ k d within.
     let key = (get_or es k d).0 in
     let found : find name_cmp key fs ≡ Some (get_or es k d).1 =
-    sym (get-from_entries name_total fs key) ∙ ap (λ (m : FinMap name_cmp (List ℕ)). get m key) (sym same) ∙ get-from_entries name_total es key ∙ found_at es distinct k d within in
-    contains_found fs key (get_or es k d).1 found
+    sym (get-from_entries name_total fs key) ∙ ap (λ (m : FinMap name_cmp (List ℕ)). get m key) (sym same) ∙ get-from_entries name_total es key ∙ found_at name_total name_same es distinct k d within in
+    contains_found name_total name_same fs key (get_or es k d).1 found

@@ -1,6 +1,8 @@
 -- What stands in the graph by names is what stands in the slots.
 use Rattle.std.proofs.Common.{◌≡◌, ℕ, inl, inr, Option, Some, None, refl, sym, ap, ◌∙◌}
 use Rattle.std.specs.FinMap as map
+use Rattle.std.proofs.lemmas.List.Elements.{All-weaker}
+use Rattle.std.proofs.lemmas.Option.{none-some}
 use Rattle.port_types.specs.declared.side.Side.{Side}
 use Rattle.port_types.specs.declared.side.Side.TheVariants.{Ins, Outs}
 use Rattle.graph_core.specs.declared.node.Node.{Node}
@@ -11,8 +13,7 @@ use Rattle.graph_core.specs.Name.{Name, Port, port_get}
 use Rattle.graph_core.specs.Kind.{Shape, ins, outs, ports}
 use Rattle.graph_core.specs.Node.{Body, body_of}
 use Rattle.graph_core.specs.GraphValue.{GraphValue, node_at, shape_of, named_graph, named_nodes, name_of, port_named, HasName, IsGraph}
-use Rattle.graph_core.proofs.Options.{none_some, answer_cases}
-use Rattle.graph_core.proofs.Each.{each_weaker}
+use Rattle.graph_core.proofs.Options.{answer_cases}
 use Rattle.graph_core.proofs.Maps.{each_found, renamed_found, renamed_behind}
 use Rattle.graph_core.proofs.NamedNodes.{named_found, named_behind}
 use Rattle.graph_core.proofs.Orders.{name_total, port_total, port_same, place_total, place_same}
@@ -54,7 +55,7 @@ pub record PortBehind (o : Option Node) (side : Side) (port : ℕ) (shape : Shap
   pub has : port_get (ports node.kind side) port ≡ Some shape
 
 pub port_behind : (o : Option Node) (side : Side) (port : ℕ) (shape : Shape) → shape_of o side port ≡ Some shape → PortBehind o side port shape
-port_behind None side port shape is = absurd (none_some shape refl is)
+port_behind None side port shape is = absurd (none-some shape is)
 port_behind (Some node) side port shape is = record { node = node; live = refl; has = is }
 
 -- ports of live nodes that have one name are one
@@ -89,7 +90,7 @@ IsInputAlone g target = (p source : PortAt) → map.get g.feeders p ≡ Some sou
 
 pub wire_found_alone : (g : GraphValue) (target source : PortAt) → IsInputAlone g target → map.get g.feeders target ≡ Some source → map.get (named_graph g).feeders (port_named g target) ≡ Some (port_named g source)
 wire_found_alone g target source alone wired =
-    let each = each_weaker (λ wire. map.get g.feeders wire.0 ≡ Some wire.1) (λ wire. port_named g wire.0 ≡ port_named g target → wire.0 ≡ target) (λ wire found. alone wire.0 wire.1 found) (map.entries g.feeders) (each_found place_total place_same g.feeders) in
+    let each = All-weaker (λ wire. map.get g.feeders wire.0 ≡ Some wire.1) (λ wire. port_named g wire.0 ≡ port_named g target → wire.0 ≡ target) (λ wire found. alone wire.0 wire.1 found) (map.entries g.feeders) (each_found place_total place_same g.feeders) in
     map.get-from_entries port_total _ (port_named g target)
     ∙ renamed_found place_total place_same port_total port_same (port_named g) (port_named g) (map.entries g.feeders) target source each (sym (map.get-entries g.feeders target) ∙ wired)
 
@@ -123,6 +124,6 @@ wire_none g ok target node live free =
       | inl found ↦
           let wire = wire_behind g (port_named g target) found.0 found.1 in
           let one : wire.to ≡ target = input_alone g ok target node live wire.to wire.from wire.wired wire.is_to in
-          absurd (none_some wire.from free (rw one at wire.wired))
+          absurd (none-some wire.from (sym free ∙ rw one at wire.wired))
       | inr none ↦ none
     ]

@@ -1,10 +1,13 @@
 -- What the changes of a graph do to the graph by names.
-use Rattle.std.proofs.Common.{◌≡◌, ◌≢◌, inl, inr, Bool, true, false, not, ◌||◌, if◌then◌else◌, List, [], ◌∷◌, map as list_map, length, Option, Some, None, bytes_eq, refl, sym, ap, ◌∙◌}
+use Rattle.std.proofs.Common.{arith, ◌≡◌, ◌≢◌, inl, inr, Bool, true, false, not, ◌||◌, if◌then◌else◌, List, [], ◌∷◌, map as list_map, length, Option, Some, None, bytes_eq, refl, sym, ap, ◌∙◌}
 use Rattle.std.specs.Prelude.{slice_get}
 use Rattle.std.specs.FinMap as map
 use Rattle.std.proofs.lemmas.Bool.{cases_eq, eqb-false, ne_eqb, both_ways, false_from_ne_true, or_parts, or_from, not-true, not_from_false}
-use Rattle.std.proofs.lemmas.Option.{same_Some}
+use Rattle.std.proofs.lemmas.Option.{same_Some, none-some}
 use Rattle.std.proofs.lemmas.Slice.Eq.{bytes_eq-Decides}
+use Rattle.std.proofs.lemmas.List.{nil_from_length}
+use Rattle.std.proofs.lemmas.List.Elements.{All-weaker, All-tail}
+use Rattle.std.specs.List.{All}
 use Rattle.port_types.specs.declared.side.Side.TheVariants.{Ins, Outs}
 use Rattle.graph_core.specs.declared.node.Node.{Node}
 use Rattle.graph_core.specs.declared.place.NodeId.{NodeId}
@@ -15,22 +18,19 @@ use Rattle.graph_core.specs.Name.{Name, Port}
 use Rattle.graph_core.specs.Kind.{Shape}
 use Rattle.graph_core.specs.Node.{Body, body_of}
 use Rattle.graph_core.specs.NamedGraph.{no_graph, with_node, with_wire, without_node, is_of}
-use Rattle.graph_core.specs.GraphValue.{GraphValue, flat, node_at, shape_at, named_nodes, named_wire, name_of, named_graph, port_named, is_at, IsGraph, with_slot, with_feeder, without_id}
+use Rattle.graph_core.specs.GraphValue.{GraphValue, flat, node_at, shape_at, named_nodes, named_wire, name_of, named_graph, port_named, is_at, IsGraph, with_slot, with_feeder, without_id, is_kept}
 use Rattle.graph_core.specs.Wiring.{fault_between, is_taken, wire_fault}
-use Rattle.graph_core.proofs.Options.{none_some, same_answers}
-use Rattle.graph_core.proofs.Each.{each_weaker, same_each}
+use Rattle.graph_core.proofs.Options.{same_answers}
 use Rattle.graph_core.proofs.Maps.{key_cases, insert_here, insert_other, remove_here, remove_other, kept, kept_parts, each_found}
 use Rattle.graph_core.proofs.NamedNodes.{slot_kept, slot_other, slot_gone, named_nodes_push}
 use Rattle.graph_core.proofs.Orders.{name_total, name_same, port_total, port_same, place_total, place_same}
 use Rattle.graph_core.proofs.ByNames.{AreNamesApart, IsInputAlone, node_found, node_found_apart, node_behind, port_behind, same_port, wire_ends, wire_found, wire_found_alone, wire_behind}
-
-no_entries : {A : Type 0} (es : List A) → length es ≡ 0 → es ≡ []
-no_entries [] e = refl
-no_entries (x ∷ es) e = cc
+use Rattle.graph_core.proofs.Faults.{fitting}
+use Rattle.graph_core.proofs.KeepsGraph.{left as left_wire}
 
 pub named_graph-empty : named_graph (record { slots = []; feeders = map.empty }) ≡ no_graph
 named_graph-empty =
-    let none : map.entries (map.empty {X = PortAt} {R = place_cmp}) ≡ [] = no_entries _ (sym (map.len-entries map.empty) ∙ map.len-empty place_cmp PortAt) in
+    let none : map.entries (map.empty {X = PortAt} {R = place_cmp}) ≡ [] = nil_from_length _ (sym (map.len-entries map.empty) ∙ map.len-empty place_cmp PortAt) in
     λ i. record { nodes = map.empty; feeders = map.from_entries (list_map (named_wire (record { slots = []; feeders = map.empty })) (none i)) }
 
 -- One more node
@@ -43,9 +43,14 @@ wire_kept g ok node wire wired =
     let ends = wire_ends g ok wire.0 wire.1 wired in
     λ i. (port_kept g node wire.0 ends.to ends.live_to i, port_kept g node wire.1 ends.from ends.live_from i)
 
+-- two functions that agree at each element map alike
+same_each : {X Y : Type 0} (f h : X → Y) (xs : List X) → All (λ x. f x ≡ h x) xs → list_map f xs ≡ list_map h xs
+same_each f h [] each = refl
+same_each f h (x ∷ xs) each = λ i. each 0 x (omega arith) i ∷ same_each f h xs (All-tail (λ y. f y ≡ h y) x xs each) i
+
 wires_kept : (g : GraphValue) → IsGraph g → (node : Node) → list_map (named_wire (with_slot g node)) (map.entries g.feeders) ≡ list_map (named_wire g) (map.entries g.feeders)
 wires_kept g ok node =
-    let each = each_weaker (λ wire. map.get g.feeders wire.0 ≡ Some wire.1) (λ wire. named_wire (with_slot g node) wire ≡ named_wire g wire) (wire_kept g ok node) (map.entries g.feeders) (each_found place_total place_same g.feeders) in
+    let each = All-weaker (λ wire. map.get g.feeders wire.0 ≡ Some wire.1) (λ wire. named_wire (with_slot g node) wire ≡ named_wire g wire) (wire_kept g ok node) (map.entries g.feeders) (each_found place_total place_same g.feeders) in
     same_each (named_wire (with_slot g node)) (named_wire g) (map.entries g.feeders) each
 
 pub named_graph-with_slot : (g : GraphValue) → IsGraph g → (node : Node) → map.get (named_graph g).nodes node.name ≡ None → named_graph (with_slot g node) ≡ with_node (named_graph g) node.name (body_of node)
@@ -55,23 +60,6 @@ named_graph-with_slot g ok node fresh =
     λ i. record { nodes = nodes i; feeders = map.from_entries (wires_kept g ok node i) }
 
 -- One more wire
-
--- where no fault is, both ports are there, with one shape, and on no wire
-pub record FitsBetween (from to : Option Shape) (taken : Bool) : Type 0 where
-  pub shape : Shape
-  pub is_from : from ≡ Some shape
-  pub is_to : to ≡ Some shape
-  pub free : taken ≡ false
-
-fits_where : (a b : Shape) (same : Bool) → bytes_eq a b ≡ same → (if same then None else Some ShapeDiffers) ≡ None → FitsBetween (Some a) (Some b) false
-fits_where a b true e fits = record { shape = a; is_from = refl; is_to = ap Some (sym ((bytes_eq-Decides a b).0 e)); free = refl }
-fits_where a b false e fits = absurd (none_some ShapeDiffers fits refl)
-
-pub fits_between : (from to : Option Shape) (taken : Bool) → fault_between from to taken ≡ None → FitsBetween from to taken
-fits_between None to taken fits = absurd (none_some UnknownPort fits refl)
-fits_between (Some a) None taken fits = absurd (none_some UnknownPort fits refl)
-fits_between (Some a) (Some b) true fits = absurd (none_some PortTaken fits refl)
-fits_between (Some a) (Some b) false fits = fits_where a b (bytes_eq a b) refl fits
 
 module _ (g : GraphValue) (ok : IsGraph g) (source target : PortAt) (node : Node) (live : node_at g target.node ≡ Some node) where
   abbrev wired : GraphValue
@@ -129,8 +117,8 @@ module _ (g : GraphValue) (ok : IsGraph g) (source target : PortAt) (node : Node
 
 pub named_graph-with_feeder : (g : GraphValue) → IsGraph g → (source target : PortAt) → wire_fault g source target ≡ None → named_graph (with_feeder g source target) ≡ with_wire (named_graph g) (port_named g source) (port_named g target)
 named_graph-with_feeder g ok source target fits =
-    let between = fits_between (shape_at g Outs source) (shape_at g Ins target) (is_taken g source target) fits in
-    let end = port_behind (node_at g target.node) Ins target.port between.shape between.is_to in
+    let fit = fitting g source target fits in
+    let end = port_behind (node_at g target.node) Ins target.port fit.shape fit.enters in
     λ i. record { nodes = (named_graph g).nodes; feeders = feeders_with g ok source target end.node end.live i }
 
 -- A node less, and the wires at its ports
@@ -151,16 +139,13 @@ module _ (g : GraphValue) (ok : IsGraph g) (id : NodeId) (node : Node) (live : n
   abbrev left : GraphValue
   left = without_id g id
 
-  abbrev stays : PortAt → Bool
-  stays target = not (is_at id (Some target) || is_at id (map.get g.feeders target))
-
   abbrev stays_named : Port → Bool
   stays_named target = not (is_of node.name (Some target) || is_of node.name (map.get (named_graph g).feeders target))
 
   live_before : (i : NodeId) (found : Node) → node_at left i ≡ Some found → (index_of i ≢ index_of id) × (node_at g i ≡ Some found)
   live_before i found live_i =
       elim (cases_eq (index_of i) (index_of id)) [
-        | inl one ↦ absurd (none_some found (slot_gone g.slots (index_of id)) (ap (λ k. flat (slice_get left.slots k)) (sym one) ∙ live_i))
+        | inl one ↦ absurd (none-some found (sym (slot_gone g.slots (index_of id)) ∙ ap (λ k. flat (slice_get left.slots k)) (sym one) ∙ live_i))
         | inr two ↦ (two, sym (slot_other g.slots (index_of id) (index_of i) two) ∙ live_i)
       ]
 
@@ -186,7 +171,7 @@ module _ (g : GraphValue) (ok : IsGraph g) (id : NodeId) (node : Node) (live : n
   node_back : (q : Name) (body : Body) → map.get (without_node (named_graph g) node.name).nodes q ≡ Some body → map.get (named_graph left).nodes q ≡ Some body
   node_back q body found =
       elim (key_cases name_total name_same q node.name) [
-        | inl one ↦ absurd (none_some body (ap (map.get (without_node (named_graph g) node.name).nodes) one.is ∙ remove_here name_total name_same (named_graph g).nodes node.name) found)
+        | inl one ↦ absurd (none-some body (sym (ap (map.get (without_node (named_graph g) node.name).nodes) one.is ∙ remove_here name_total name_same (named_graph g).nodes node.name) ∙ found))
         | inr two ↦
             let there = node_behind g q body (sym (remove_other name_total name_same (named_graph g).nodes node.name q two.is_not) ∙ found) in
             let apart : index_of there.id ≢ index_of id = λ e. two.is_not (sym there.is_name ∙ ap name_of (sym there.live) ∙ one_name there.id e) in
@@ -201,27 +186,11 @@ module _ (g : GraphValue) (ok : IsGraph g) (id : NodeId) (node : Node) (live : n
   port_left : (p : PortAt) → index_of p.node ≢ index_of id → port_named left p ≡ port_named g p
   port_left p apart = λ i. record { node = name_of (slot_other g.slots (index_of id) (index_of p.node) apart i); port = p.port }
 
-  -- a wire that stays
-  record Stays (target source : PortAt) : Type 0 where
-    wired : map.get g.feeders target ≡ Some source
-    to_apart : index_of target.node ≢ index_of id
-    from_apart : index_of source.node ≢ index_of id
-
-  stays_where : (target source : PortAt) → map.get left.feeders target ≡ Some source → Stays target source
-  stays_where target source fed =
-      let parts = kept_parts place_total place_same g.feeders stays target source fed in
-      let apart = neither (is_at id (Some target)) (is_at id (map.get g.feeders target)) parts.0 in
-      record {
-        wired = parts.1;
-        to_apart = eqb-false (index_of target.node) (index_of id) apart.0;
-        from_apart = eqb-false (index_of source.node) (index_of id) (ap (is_at id) (sym parts.1) ∙ apart.1);
-      }
-
   stays_from : (target source : PortAt) → map.get g.feeders target ≡ Some source → index_of target.node ≢ index_of id → index_of source.node ≢ index_of id → map.get left.feeders target ≡ Some source
   stays_from target source fed to_apart from_apart =
       let not_to = ne_eqb (index_of target.node) (index_of id) to_apart in
       let not_from = ap (is_at id) fed ∙ ne_eqb (index_of source.node) (index_of id) from_apart in
-      kept place_total place_same g.feeders stays target (neither_from (is_at id (Some target)) (is_at id (map.get g.feeders target)) not_to not_from) ∙ fed
+      kept place_total place_same g.feeders (is_kept id g.feeders) target (neither_from (is_at id (Some target)) (is_at id (map.get g.feeders target)) not_to not_from) ∙ fed
 
   not_of : (p : PortAt) (found : Node) (q : Port) → node_at g p.node ≡ Some found → index_of p.node ≢ index_of id → port_named g p ≡ q → is_of node.name (Some q) ≡ false
   not_of p found q live_p apart is =
@@ -233,20 +202,20 @@ module _ (g : GraphValue) (ok : IsGraph g) (id : NodeId) (node : Node) (live : n
   feeder_there : (q s : Port) → map.get (named_graph left).feeders q ≡ Some s → map.get (without_node (named_graph g) node.name).feeders q ≡ Some s
   feeder_there q s found =
       let wire = wire_behind left q s found in
-      let stay = stays_where wire.to wire.from wire.wired in
+      let stay = left_wire g id wire.to wire.from wire.wired in
       let ends = wire_ends g ok wire.to wire.from stay.wired in
-      let is_to = sym (port_left wire.to stay.to_apart) ∙ wire.is_to in
-      let is_from = sym (port_left wire.from stay.from_apart) ∙ wire.is_from in
+      let is_to = sym (port_left wire.to stay.target_away) ∙ wire.is_to in
+      let is_from = sym (port_left wire.from stay.source_away) ∙ wire.is_from in
       let old = ap (map.get (named_graph g).feeders) (sym is_to) ∙ wire_found g ok wire.to wire.from stay.wired ∙ ap Some is_from in
-      let not_to = not_of wire.to ends.to q ends.live_to stay.to_apart is_to in
-      let not_from = ap (is_of node.name) old ∙ not_of wire.from ends.from s ends.live_from stay.from_apart is_from in
+      let not_to = not_of wire.to ends.to q ends.live_to stay.target_away is_to in
+      let not_from = ap (is_of node.name) old ∙ not_of wire.from ends.from s ends.live_from stay.source_away is_from in
       kept port_total port_same (named_graph g).feeders stays_named q (neither_from (is_of node.name (Some q)) (is_of node.name (map.get (named_graph g).feeders q)) not_to not_from) ∙ old
 
   alone_left : (p : PortAt) (found : Node) → node_at g p.node ≡ Some found → index_of p.node ≢ index_of id → IsInputAlone left p
   alone_left p found live_p apart q from fed is =
-      let stay = stays_where q from fed in
+      let stay = left_wire g id q from fed in
       let ends = wire_ends g ok q from stay.wired in
-      same_port g ok.names q p ends.to found ends.live_to live_p (sym (port_left q stay.to_apart) ∙ is ∙ port_left p apart)
+      same_port g ok.names q p ends.to found ends.live_to live_p (sym (port_left q stay.target_away) ∙ is ∙ port_left p apart)
 
   feeder_back : (q s : Port) → map.get (without_node (named_graph g) node.name).feeders q ≡ Some s → map.get (named_graph left).feeders q ≡ Some s
   feeder_back q s found =

@@ -2,7 +2,7 @@
 use Rattle.std.proofs.Common.{◌≡◌, inl, inr, false, Option, Some, None, is_some, if◌then◌else◌, refl, sym, ap, ◌∙◌, true≢false}
 use Rattle.std.specs.FinMap as map
 use Rattle.std.proofs.lemmas.Bool.{or_parts, or_from, false_from_ne_true}
-use Rattle.std.proofs.lemmas.Option.{same_Some}
+use Rattle.std.proofs.lemmas.Option.{same_Some, none-some}
 use Rattle.std.proofs.lemmas.Slice.Eq.{bytes_eq-Decides}
 use Rattle.port_types.specs.declared.side.Side.{Side}
 use Rattle.port_types.specs.declared.side.Side.TheVariants.{Ins, Outs}
@@ -15,40 +15,35 @@ use Rattle.graph_core.specs.Node.{Body, body_of}
 use Rattle.graph_core.specs.NamedGraph.{CanWire}
 use Rattle.graph_core.specs.GraphValue.{GraphValue, node_at, shape_of, shape_at, feeds, named_graph, port_named, IsGraph}
 use Rattle.graph_core.specs.Wiring.{fault_between, is_taken, wire_fault}
-use Rattle.graph_core.proofs.Options.{none_some, answer_cases}
+use Rattle.graph_core.proofs.Options.{answer_cases}
 use Rattle.graph_core.proofs.Feeds.{fed_where_feeds, feeds_where_fed}
 use Rattle.graph_core.proofs.ByNames.{port_behind, same_port, wire_ends, wire_found, wire_behind, wire_none}
-use Rattle.graph_core.proofs.ByNamesAfter.{fits_between}
+use Rattle.graph_core.proofs.Faults.{fitting}
 use Rattle.graph_core.proofs.TypedByNames.{node_of_port}
-
-none_is : {A : Type 0} (o : Option A) → is_some o ≡ false → o ≡ None
-none_is None e = refl
-none_is (Some x) e = absurd (true≢false e)
 
 module _ (g : GraphValue) (ok : IsGraph g) (source target : PortAt) where
   pub can_wire_where_fits : wire_fault g source target ≡ None → CanWire (named_graph g) (port_named g source) (port_named g target)
   can_wire_where_fits fits =
-      let between = fits_between (shape_at g Outs source) (shape_at g Ins target) (is_taken g source target) fits in
-      let start = port_behind (node_at g source.node) Outs source.port between.shape between.is_from in
-      let end = port_behind (node_at g target.node) Ins target.port between.shape between.is_to in
-      let free = or_parts (is_some (map.get g.feeders target)) (feeds g source) between.free in
+      let fit = fitting g source target fits in
+      let start = port_behind (node_at g source.node) Outs source.port fit.shape fit.leaves in
+      let end = port_behind (node_at g target.node) Ins target.port fit.shape fit.enters in
       record {
         wire =
             record {
               from = body_of start.node;
               to = body_of end.node;
-              shape = between.shape;
+              shape = fit.shape;
               is_from = node_of_port g ok source (port_named g source) start.node start.live refl;
               is_to = node_of_port g ok target (port_named g target) end.node end.live refl;
               leaves = start.has;
               enters = end.has;
             };
-        target_free = wire_none g ok target end.node end.live (none_is (map.get g.feeders target) free.0);
+        target_free = wire_none g ok target end.node end.live fit.into;
         source_free = λ p fed.
             let wire = wire_behind g p (port_named g source) fed in
             let ends = wire_ends g ok wire.to wire.from wire.wired in
             let from : wire.from ≡ source = same_port g ok.names wire.from source ends.from start.node ends.live_from start.live wire.is_from in
-            true≢false (sym (feeds_where_fed g wire.to source (wire.wired ∙ ap Some from)) ∙ free.1);
+            fit.from wire.to (wire.wired ∙ ap Some from);
       }
 
   shape_by_name : (p : PortAt) (side : Side) (node : Node) (body : Body) (shape : Shape) → node_at g p.node ≡ Some node → map.get (named_graph g).nodes (port_named g p).node ≡ Some body → port_get (ports body.kind side) p.port ≡ Some shape → shape_at g side p ≡ Some shape
@@ -60,7 +55,7 @@ module _ (g : GraphValue) (ok : IsGraph g) (source target : PortAt) where
     target_free : is_some (map.get g.feeders target) ≡ false
     target_free =
         elim (answer_cases (map.get g.feeders target)) [
-          | inl fed ↦ absurd (none_some (port_named g fed.0) can.target_free (wire_found g ok target fed.0 fed.1))
+          | inl fed ↦ absurd (none-some (port_named g fed.0) (sym can.target_free ∙ wire_found g ok target fed.0 fed.1))
           | inr none ↦ ap is_some none
         ]
 

@@ -3,6 +3,8 @@ use Rattle.std.proofs.Common.{◌≡◌, ◌≢◌, Bool, true, false, cond, ◌
 use Rattle.std.proofs.lemmas.Slice.Eq.{bytes_eq-Decides}
 use Rattle.std.specs.FinMap as map
 use Rattle.std.specs.Prelude.{IsSome}
+use Rattle.std.proofs.lemmas.Option.{same_Some, none-some}
+use Rattle.std.proofs.lemmas.Bool.{false_from_ne_true, or_parts, or_right}
 use Rattle.port_types.specs.declared.side.Side.{Side}
 use Rattle.port_types.specs.declared.side.Side.TheVariants.{Ins, Outs}
 use Rattle.graph_core.specs.declared.node.Node.{Node}
@@ -12,17 +14,11 @@ use Rattle.graph_core.specs.declared.graph.AddWire.TheVariants.{PortTaken, Shape
 use Rattle.graph_core.specs.Kind.{Shape, ins, outs}
 use Rattle.graph_core.specs.GraphValue.{GraphValue, node_at, shape_of, shape_at, feeds}
 use Rattle.graph_core.specs.Wiring.{wire_fault, fault_between, is_taken}
-use Rattle.graph_core.proofs.Known.{not_None, none_by, same_Some}
-use Rattle.graph_core.proofs.Options.{some_there}
+use Rattle.graph_core.proofs.Options.{some_there, none_by}
 use Rattle.graph_core.proofs.Feeds.{fed_where_feeds, feeds_where_fed}
-use Rattle.graph_core.proofs.WireLists.{not_true}
-
-or_right : (a b : Bool) → b ≡ true → (a || b) ≡ true
-or_right true b e = refl
-or_right false b e = e
 
 feeds_free : (g : GraphValue) (source : PortAt) → ((target : PortAt) → map.get g.feeders target ≢ Some source) → feeds g source ≡ false
-feeds_free g source free = not_true (feeds g source) (λ e. let fed = fed_where_feeds g source e in free fed.0 fed.1)
+feeds_free g source free = false_from_ne_true (feeds g source) (λ e. let fed = fed_where_feeds g source e in free fed.0 fed.1)
 
 -- the shapes of the two ports
 pub record Shaped (g : GraphValue) (source target : PortAt) (leaving entering : Shape) : Type 0 where
@@ -46,7 +42,7 @@ module _ (g : GraphValue) (source target : PortAt) (leaving entering : Shape) (s
   fault_none into from same = free into from ∙ ap (λ b. cond b None (Some ShapeDiffers)) ((bytes_eq-Decides leaving entering).1 same)
 
   pub fault_shape : map.get g.feeders target ≡ None → ((other : PortAt) → map.get g.feeders other ≢ Some source) → leaving ≢ entering → wire_fault g source target ≡ Some ShapeDiffers
-  fault_shape into from other = free into from ∙ ap (λ b. cond b None (Some ShapeDiffers)) (not_true _ (λ e. other ((bytes_eq-Decides leaving entering).0 e)))
+  fault_shape into from other = free into from ∙ ap (λ b. cond b None (Some ShapeDiffers)) (false_from_ne_true _ (λ e. other ((bytes_eq-Decides leaving entering).0 e)))
 
 -- the node that a port belongs to
 pub record Owned (g : GraphValue) (side : Side) (port : PortAt) (node : Node) : Type 0 where
@@ -72,7 +68,7 @@ module _ (g : GraphValue) (source target : PortAt) (from to : Node) (leaving : O
   input = ap (λ o. shape_of o Ins target.port) (sym entering.live) ∙ shaped.enters
 
   pub one_shape : port_get (outs from.kind) source.port ≡ port_get (ins to.kind) target.port → from_shape ≡ to_shape
-  one_shape same = same_Some (sym output ∙ same ∙ input)
+  one_shape same = same_Some _ _ (sym output ∙ same ∙ input)
 
   pub two_shapes : port_get (outs from.kind) source.port ≢ port_get (ins to.kind) target.port → from_shape ≢ to_shape
   two_shapes differ same = differ (output ∙ ap Some same ∙ sym input)
@@ -85,16 +81,12 @@ pub record Fitting (g : GraphValue) (source target : PortAt) : Type 0 where
   pub into : map.get g.feeders target ≡ None
   pub from : (other : PortAt) → map.get g.feeders other ≢ Some source
 
-or_false : (a b : Bool) → (a || b) ≡ false → (a ≡ false) × (b ≡ false)
-or_false true b e = absurd (true≢false e)
-or_false false b e = (refl, e)
-
 fitting_at : (g : GraphValue) (source target : PortAt) (a b : Option Shape) (taken : Bool) → shape_at g Outs source ≡ a → shape_at g Ins target ≡ b → is_taken g source target ≡ taken → fault_between a b taken ≡ None → Fitting g source target
-fitting_at g source target None b taken la lb t e = absurd (not_None e)
-fitting_at g source target (Some a) None taken la lb t e = absurd (not_None e)
-fitting_at g source target (Some a) (Some b) true la lb t e = absurd (not_None e)
+fitting_at g source target None b taken la lb t e = absurd (none-some _ (sym e))
+fitting_at g source target (Some a) None taken la lb t e = absurd (none-some _ (sym e))
+fitting_at g source target (Some a) (Some b) true la lb t e = absurd (none-some _ (sym e))
 fitting_at g source target (Some a) (Some b) false la lb t e =
-    let free = or_false _ _ t in
+    let free = or_parts _ _ t in
     let same : a ≡ b = (bytes_eq-Decides a b).0 (alike (bytes_eq a b) e) in
     record {
       shape = a;
@@ -106,7 +98,7 @@ fitting_at g source target (Some a) (Some b) false la lb t e =
   where
     alike : (r : Bool) → cond r None (Some ShapeDiffers) ≡ None → r ≡ true
     alike true h = refl
-    alike false h = absurd (not_None h)
+    alike false h = absurd (none-some _ (sym h))
 
 pub fitting : (g : GraphValue) (source target : PortAt) → wire_fault g source target ≡ None → Fitting g source target
 fitting g source target e = fitting_at g source target (shape_at g Outs source) (shape_at g Ins target) (is_taken g source target) refl refl refl e

@@ -1,27 +1,27 @@
 -- Whether an output stands on a wire.
 use Rattle.std.proofs.Common.{◌≡◌, ◌≢◌, ◌⊎◌, inl, inr, Bool, true, ◌&&◌, ◌||◌, ◌==◌, List, [], ◌∷◌, cond, Some, Ordering, refl, sym, ap, ◌∙◌, true≢false}
 use Rattle.std.specs.Ordering.{eq_by_cmp}
-use Rattle.std.specs.List.{AllByRecursion, list_any}
+use Rattle.std.specs.List.{All, list_any}
 use Rattle.std.specs.FinMap as map
 use Rattle.std.proofs.lemmas.Bool.{cases_Bool, and_parts, and_from, eqb-true, eq-eqb, or_right}
-use Rattle.std.proofs.lemmas.Option.{same_Some}
+use Rattle.std.proofs.lemmas.Option.{same_Some, none-some}
+use Rattle.std.proofs.lemmas.List.Elements.{All-head, All-tail}
 use Rattle.graph_core.specs.declared.place.PortAt.{PortAt}
 use Rattle.graph_core.specs.Place.{index_of, place_cmp}
 use Rattle.graph_core.specs.GraphValue.{GraphValue, feeds}
-use Rattle.graph_core.proofs.Options.{none_some}
 use Rattle.graph_core.proofs.Maps.{each_found}
 use Rattle.graph_core.proofs.Orders.{place_total, place_same}
 
-pub any_where : {X : Type 0} (test : X → Bool) (P : X → Type 0) (xs : List X) → AllByRecursion P xs → list_any test xs ≡ true → (x : X) × (test x ≡ true) × P x
+pub any_where : {X : Type 0} (test : X → Bool) (P : X → Type 0) (xs : List X) → All P xs → list_any test xs ≡ true → (x : X) × (test x ≡ true) × P x
 any_where test P [] each any = absurd (true≢false (sym any))
 any_where test P (x ∷ xs) each any =
     elim (cases_Bool (test x)) [
-      | inl passes ↦ (x, passes, each.0)
-      | inr fails ↦ any_where test P xs each.1 (ap (λ b. b || list_any test xs) (sym fails) ∙ any)
+      | inl passes ↦ (x, passes, All-head P x xs each)
+      | inr fails ↦ any_where test P xs (All-tail P x xs each) (ap (λ b. b || list_any test xs) (sym fails) ∙ any)
     ]
 
 pub any_from_found : {K X : Type 0} (R : K → K → Ordering) (test : K × X → Bool) (k : K) (v : X) → ((q : K) → test (q, v) ≡ true) → (es : List (K × X)) → map.find R k es ≡ Some v → list_any test es ≡ true
-any_from_found R test k v passes [] found = absurd (none_some v refl found)
+any_from_found R test k v passes [] found = absurd (none-some v found)
 any_from_found R test k v passes (e ∷ es) found =
     elim (cases_Bool (eq_by_cmp R k e.0)) [
       | inl one ↦

@@ -8,50 +8,25 @@ use Rattle.std.specs.declared.cmp.Ordering.TheVariants.{Less, Equal, Greater}
 use Rattle.std.specs.BTreeMap.{insert_entry}
 use Rattle.std.specs.FinMap as map
 use Rattle.std.specs.FinMap.Entries.{put, by_order}
+use Rattle.std.specs.Cmp.{Equal-is}
+use Rattle.std.proofs.lemmas.List.{nil_from_length}
+use Rattle.std.proofs.lemmas.Option.{none-some}
 use Rattle.graph_core.specs.declared.node.Node.{Node}
 use Rattle.graph_core.specs.declared.place.NodeId.{NodeId}
 use Rattle.graph_core.specs.Name.{Name, name_cmp}
 use Rattle.graph_core.specs.Node.{Body, body_of}
 use Rattle.graph_core.specs.GraphValue.{flat, named, named_nodes}
 use Rattle.graph_core.specs.Inside.{IsNamedAt, AreNamedApart}
+use Rattle.graph_core.proofs.ByKey.{Matches, Matches-insert, ref_cmp}
 use Rattle.graph_core.proofs.Orders.{name_total, name_same}
-use Rattle.graph_core.proofs.Known.{not_None}
-
--- the order of names behind references
-abbrev pub ref_cmp : Bor (List ℕ) → Bor (List ℕ) → Ordering
-ref_cmp a b = slice_cmp nat_cmp a.now b.now
 
 -- what stands behind an id
 abbrev pub named_at : List (Option Node) → NodeId → Option (Name × Body)
 named_at slots id = option_map named (flat (slice_get slots id.index))
 
--- the names and ids are those of the entries, one by one
-abbrev pub Matches : List (Option Node) → List (Bor (List ℕ) × NodeId) → List (Name × Body) → Type 0
-Matches slots [] [] = Unit {0}
-Matches slots [] (e ∷ es) = ⊥
-Matches slots (x ∷ xs) [] = ⊥
-Matches slots (x ∷ xs) (e ∷ es) = (x.0.now ≡ e.0) × (named_at slots x.1 ≡ Some e) × Matches slots xs es
-
-pub Matches-values : (slots : List (Option Node)) (xs : List (Bor (List ℕ) × NodeId)) (es : List (Name × Body)) → Matches slots xs es → map (named_at slots) (map (λ x. x.1) xs) ≡ map Some es
-Matches-values slots [] [] m = refl
-Matches-values slots [] (e ∷ es) m = absurd m
-Matches-values slots (x ∷ xs) [] m = absurd m
-Matches-values slots (x ∷ xs) (e ∷ es) m = λ i. m.1 i ∷ Matches-values slots xs es m.2 i
-
-pub Matches-insert : (slots : List (Option Node)) (name : Bor (List ℕ)) (id : NodeId) (body : Body) → named_at slots id ≡ Some (name.now, body) → (xs : List (Bor (List ℕ) × NodeId)) (es : List (Name × Body)) → Matches slots xs es → Matches slots (insert_entry ref_cmp xs name id) (put name_cmp name.now body es)
-Matches-insert slots name id body is [] [] m = (refl, is, tt)
-Matches-insert slots name id body is [] (e ∷ es) m = absurd m
-Matches-insert slots name id body is (x ∷ xs) [] m = absurd m
-Matches-insert slots name id body is (x ∷ xs) (e ∷ es) m =
-    subst (λ o. Matches slots (match_ordering o ((name, id) ∷ x ∷ xs) ((x.0, id) ∷ xs) (x ∷ insert_entry ref_cmp xs name id)) (put name_cmp name.now body (e ∷ es)))
-    (ap (name_cmp name.now) (sym m.0))
-    (at (Matches-insert slots name id body is xs es m.2) (name_cmp name.now e.0) refl)
-  where
-    at : Matches slots (insert_entry ref_cmp xs name id) (put name_cmp name.now body es) → (o : Ordering) → name_cmp name.now e.0 ≡ o
-        → Matches slots (match_ordering o ((name, id) ∷ x ∷ xs) ((x.0, id) ∷ xs) (x ∷ insert_entry ref_cmp xs name id)) (by_order o ((name.now, body) ∷ e ∷ es) ((e.0, body) ∷ es) (e ∷ put name_cmp name.now body es))
-    at more Less is_less = (refl, is, m)
-    at more Equal is_equal = (m.0, is ∙ ap (λ n. Some (n, body)) (name_same name.now e.0 is_equal), m.2)
-    at more Greater is_greater = (m.0, m.1, more)
+-- the ids of a tree are those of the nodes of the entries, under their names
+abbrev pub AreIds : List (Option Node) → List (Bor (List ℕ) × NodeId) → List (Name × Body) → Type 0
+AreIds slots = Matches (named_at slots) (λ (e : Name × Body). Some e)
 
 -- the entries of the slots so far, and the next
 
@@ -76,19 +51,14 @@ record Before (slots : List (Option Node)) (i : ℕ) (name : Name) : Type 0 wher
 later : {slot : Option Node} {slots : List (Option Node)} {i : ℕ} {name : Name} → Before slots i name → Before (slot ∷ slots) (suc i) name
 later before = let below : suc before.index < suc _ = omega (arith, before.below) in record { index = suc before.index; below = below; has = before.has }
 
-tied : (r : Ordering) → is_eq r ≡ true → r ≡ Equal
-tied Less e = absurd (true≢false (sym e))
-tied Equal e = refl
-tied Greater e = absurd (true≢false (sym e))
-
 found_before : (slots : List (Option Node)) (i : ℕ) (name : Name) (body : Body) → map.find name_cmp name (named_nodes (take i slots)) ≡ Some body → Before slots i name
-found_before slots zero name body e = absurd (not_None (sym e))
-found_before [] (suc i) name body e = absurd (not_None (sym e))
+found_before slots zero name body e = absurd (none-some _ e)
+found_before [] (suc i) name body e = absurd (none-some _ e)
 found_before (None ∷ slots) (suc i) name body e = later (found_before slots i name body e)
 found_before (Some node ∷ slots) (suc i) name body e = at (found_before slots i name body) (eq_by_cmp name_cmp name node.name) refl
   where
     at : (map.find name_cmp name (named_nodes (take i slots)) ≡ Some body → Before slots i name) → (b : Bool) → eq_by_cmp name_cmp name node.name ≡ b → Before (Some node ∷ slots) (suc i) name
-    at rest true is = record { index = 0; below = omega arith; has = (node, refl, sym (name_same name node.name (tied _ is))) }
+    at rest true is = record { index = 0; below = omega arith; has = (node, refl, sym (name_same name node.name ((Equal-is _).0 is))) }
     at rest false is = later (rest (ap (λ b. cond b (Some (body_of node)) (map.find name_cmp name (named_nodes (take i slots)))) (sym is) ∙ e))
 
 fresh : (slots : List (Option Node)) (i : ℕ) (node : Node) → AreNamedApart slots → flat (slice_get slots i) ≡ Some node → map.find name_cmp node.name (named_nodes (take i slots)) ≡ None
@@ -114,20 +84,16 @@ pub so_far-none : (slots : List (Option Node)) (i : ℕ) → flat (slice_get slo
 so_far-none slots i none =
     ap (λ n. so_far slots n) (add-one i) ∙ ap (λ es. map.entries (map.from_entries {R = name_cmp} es)) (named_nodes-take slots i ∙ ap (λ o. named_nodes (take i slots) ++ one o) none ∙ append-nil (named_nodes (take i slots)))
 
-empty_list : {A : Type 0} (xs : List A) → length xs ≡ 0 → xs ≡ []
-empty_list [] e = refl
-empty_list (x ∷ xs) e = absurd (omega arith)
-
 pub so_far-nothing : (slots : List (Option Node)) → so_far slots 0 ≡ []
-so_far-nothing slots = empty_list _ (sym (map.len-entries (map.empty {R = name_cmp})) ∙ map.len-empty name_cmp Body)
+so_far-nothing slots = nil_from_length _ (sym (map.len-entries (map.empty {R = name_cmp})) ∙ map.len-empty name_cmp Body)
 
 pub so_far-all : (slots : List (Option Node)) (i : ℕ) → length slots ≤ i → so_far slots i ≡ map.entries (map.from_entries {R = name_cmp} (named_nodes slots))
 so_far-all slots i past = ap (λ s. map.entries (map.from_entries {R = name_cmp} (named_nodes s))) (take_all i slots past)
 
 -- one turn: a live node is put at its name
-pub Matches-node : (slots : List (Option Node)) (i : ℕ) (node : Node) (name : Bor (List ℕ)) (id : NodeId) (xs : List (Bor (List ℕ) × NodeId)) → AreNamedApart slots → flat (slice_get slots i) ≡ Some node → name.now ≡ node.name → id.index ≡ i
-    → Matches slots xs (so_far slots i) → Matches slots (insert_entry ref_cmp xs name id) (so_far slots (i + 1))
-Matches-node slots i node name id xs apart live is_name is_id m =
+pub AreIds-node : (slots : List (Option Node)) (i : ℕ) (node : Node) (name : Bor (List ℕ)) (id : NodeId) (xs : List (Bor (List ℕ) × NodeId)) → AreNamedApart slots → flat (slice_get slots i) ≡ Some node → name.now ≡ node.name → id.index ≡ i
+    → AreIds slots xs (so_far slots i) → AreIds slots (insert_entry ref_cmp xs name id) (so_far slots (i + 1))
+AreIds-node slots i node name id xs apart live is_name is_id m =
     let at_id : named_at slots id ≡ Some (name.now, body_of node) = ap (λ k. option_map named (flat (slice_get slots k))) is_id ∙ ap (option_map named) live ∙ ap (λ n. Some (n, body_of node)) (sym is_name) in
     let put_at : so_far slots (i + 1) ≡ put name_cmp name.now (body_of node) (so_far slots i) = so_far-node slots i node apart live ∙ ap (λ n. put name_cmp n (body_of node) (so_far slots i)) (sym is_name) in
-    subst (Matches slots (insert_entry ref_cmp xs name id)) (sym put_at) (Matches-insert slots name id (body_of node) at_id xs (so_far slots i) m)
+    subst (AreIds slots (insert_entry ref_cmp xs name id)) (sym put_at) (Matches-insert (named_at slots) (λ (e : Name × Body). Some e) name id (body_of node) at_id xs (so_far slots i) m)

@@ -1,8 +1,9 @@
 -- What the changes of a graph keep: that it is one.
 use Rattle.std.proofs.Common.{◌≡◌, ◌∷◌, ◌≢◌, ◌⊎◌, inl, inr, Bool, true, false, cond, not, ◌||◌, [], Option, Some, None, refl, sym, ap, subst, ◌∙◌, true≢false}
-use Rattle.std.proofs.lemmas.Bool.{eq-eqb}
+use Rattle.std.proofs.lemmas.Bool.{eq-eqb, not-true, or_parts}
 use Rattle.std.specs.FinMap as map
 use Rattle.std.specs.Ordering.{eq_by_cmp}
+use Rattle.std.proofs.lemmas.Option.{same_Some, none-some}
 use Rattle.port_types.specs.declared.side.Side.{Side}
 use Rattle.port_types.specs.declared.side.Side.TheVariants.{Ins, Outs}
 use Rattle.graph_core.specs.declared.node.Node.{Node}
@@ -12,23 +13,22 @@ use Rattle.graph_core.specs.Place.{place_cmp}
 use Rattle.graph_core.specs.Name.{Name}
 use Rattle.graph_core.specs.Kind.{Shape}
 use Rattle.graph_core.specs.Node.{NodeOk}
-use Rattle.graph_core.specs.GraphValue.{GraphValue, IsGraph, HasName, node_at, shape_of, shape_at, is_at, with_slot, with_feeder, without_id}
+use Rattle.graph_core.specs.GraphValue.{GraphValue, IsGraph, HasName, node_at, shape_of, shape_at, is_at, with_slot, with_feeder, without_id, is_kept}
 use Rattle.graph_core.specs.Wiring.{wire_fault}
 use Rattle.graph_core.proofs.Orders.{place_total, place_same}
-use Rattle.graph_core.proofs.Known.{same_Some, not_None}
 use Rattle.graph_core.proofs.SlotLists.{pushed_either, emptied_old}
 use Rattle.graph_core.proofs.NamedNodes.{slot_kept, slot_other}
-use Rattle.graph_core.proofs.WireLists.{same_place}
+use Rattle.graph_core.proofs.WireLists.{same_place, get-without}
 use Rattle.graph_core.proofs.Faults.{Fitting, fitting}
 
 no_feeder : (target source : PortAt) → map.get (map.empty {R = place_cmp}) target ≡ Some source → ⊥
-no_feeder target source e = not_None (sym e ∙ map.get-empty place_cmp target)
+no_feeder target source e = none-some source (sym (map.get-empty place_cmp target) ∙ e)
 
 pub IsGraph-empty : IsGraph (record { slots = []; feeders = map.empty })
 IsGraph-empty =
     record {
-      nodes = λ id node live. absurd (not_None (sym live));
-      names = λ i j name a b. absurd (not_None (sym a.1));
+      nodes = λ id node live. absurd (none-some _ live);
+      names = λ i j name a b. absurd (none-some _ a.1);
       wires = λ target source wired. absurd (no_feeder target source wired);
       once = λ p q source wired _. absurd (no_feeder p source wired);
     }
@@ -38,7 +38,7 @@ shape_kept : (g h : GraphValue) (side : Side) (p : PortAt) (shape : Shape) → (
 shape_kept g h side p shape stays shaped = at (node_at g p.node) refl
   where
     at : (o : Option Node) → node_at g p.node ≡ o → shape_at h side p ≡ Some shape
-    at None e = absurd (not_None (sym shaped ∙ ap (λ o. shape_of o side p.port) e))
+    at None e = absurd (none-some shape (sym (ap (λ o. shape_of o side p.port) e) ∙ shaped))
     at (Some node) e = ap (λ o. shape_of o side p.port) (stays node e) ∙ ap (λ o. shape_of o side p.port) (sym e) ∙ shaped
 
 pub IsGraph-with_slot : (g : GraphValue) → IsGraph g → (node : Node) → NodeOk node → ((id : NodeId) → ¬ (HasName g id node.name)) → IsGraph (with_slot g node)
@@ -77,7 +77,7 @@ fed_either : (g : GraphValue) (source target p from : PortAt) → map.get (with_
 fed_either g source target p from wired = at (eq_by_cmp place_cmp p target) refl
   where
     at : (b : Bool) → eq_by_cmp place_cmp p target ≡ b → Fed g source target p from ⊎ (map.get g.feeders p ≡ Some from)
-    at true e = inl (record { is_target = same_place p target e; is_source = same_Some (sym wired ∙ map.get-insert place_total g.feeders target source p ∙ ap (λ b. cond b (Some source) (map.get g.feeders p)) e) })
+    at true e = inl (record { is_target = same_place p target e; is_source = same_Some _ _ (sym wired ∙ map.get-insert place_total g.feeders target source p ∙ ap (λ b. cond b (Some source) (map.get g.feeders p)) e) })
     at false e = inr (ap (λ b. cond b (Some source) (map.get g.feeders p)) (sym e) ∙ sym (map.get-insert place_total g.feeders target source p) ∙ wired)
 
 pub IsGraph-with_feeder : (g : GraphValue) → IsGraph g → (source target : PortAt) → wire_fault g source target ≡ None → IsGraph (with_feeder g source target)
@@ -109,13 +109,6 @@ IsGraph-with_feeder g ok source target fits =
 
 -- the ports of other nodes
 
--- whether a wire into this input stays
-abbrev pub stays : GraphValue → NodeId → PortAt → Bool
-stays g id target = not (is_at id (Some target) || is_at id (map.get g.feeders target))
-
-pub get-without_id : (g : GraphValue) (id : NodeId) (target : PortAt) → map.get (without_id g id).feeders target ≡ cond (stays g id target) (map.get g.feeders target) None
-get-without_id g id target = map.get-retain_keys g.feeders (stays g id) target (λ p tied. ap (stays g id) (sym (place_same target p tied)))
-
 -- a wire that is left, and stands at no port of the node
 pub record Left (g : GraphValue) (id : NodeId) (target source : PortAt) : Type 0 where
   pub wired : map.get g.feeders target ≡ Some source
@@ -125,19 +118,14 @@ pub record Left (g : GraphValue) (id : NodeId) (target source : PortAt) : Type 0
 away_from : (id : NodeId) (p : PortAt) → is_at id (Some p) ≡ false → p.node.index ≢ id.index
 away_from id p e same = true≢false (sym (eq-eqb _ _ same) ∙ e)
 
-nor : (a b : Bool) → not (a || b) ≡ true → (a ≡ false) × (b ≡ false)
-nor true b e = absurd (true≢false (sym e))
-nor false true e = absurd (true≢false (sym e))
-nor false false e = (refl, refl)
-
 pub left : (g : GraphValue) (id : NodeId) (target source : PortAt) → map.get (without_id g id).feeders target ≡ Some source → Left g id target source
-left g id target source wired = at (stays g id target) refl
+left g id target source wired = at (is_kept id g.feeders target) refl
   where
-    at : (b : Bool) → stays g id target ≡ b → Left g id target source
-    at false e = absurd (not_None (sym wired ∙ get-without_id g id target ∙ ap (λ b. cond b (map.get g.feeders target) None) e))
+    at : (b : Bool) → is_kept id g.feeders target ≡ b → Left g id target source
+    at false e = absurd (none-some source (sym (get-without id g.feeders target ∙ ap (λ b. cond b (map.get g.feeders target) None) e) ∙ wired))
     at true e =
-        let was : map.get g.feeders target ≡ Some source = ap (λ b. cond b (map.get g.feeders target) None) (sym e) ∙ sym (get-without_id g id target) ∙ wired in
-        let parts = nor _ _ e in
+        let was : map.get g.feeders target ≡ Some source = ap (λ b. cond b (map.get g.feeders target) None) (sym e) ∙ sym (get-without id g.feeders target) ∙ wired in
+        let parts = or_parts _ _ (not-true _ e) in
         record {
           wired = was;
           target_away = away_from id target parts.0;

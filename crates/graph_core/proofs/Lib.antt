@@ -1,12 +1,10 @@
 mod Options
-mod Each
 mod Maps
 mod NamedNodes
 mod Feeds
 pub mod Alike
 pub mod SameGraphs
 pub mod Orders
-pub mod Known
 pub mod PortLists
 pub mod PortFields
 pub mod PortShapes
@@ -20,7 +18,9 @@ pub mod Faults
 pub mod KeepsGraph
 pub mod Changes
 pub mod Opening
+pub mod ByKey
 pub mod InOrder
+pub mod KeptPairs
 pub mod ByNames
 pub mod ByNamesAfter
 pub mod TypedByNames

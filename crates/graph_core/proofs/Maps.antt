@@ -1,13 +1,12 @@
 -- Finite maps over an order in which only equal keys tie.
-use Rattle.std.proofs.Common.{◌≡◌, ◌≢◌, ◌⊎◌, inl, inr, Bool, true, false, cond, T, ◌&&◌, List, [], ◌∷◌, map, Option, Some, None, Ordering, Less, Equal, Greater, option_map, refl, sym, ap, ◌∙◌, true≢false}
+use Rattle.std.proofs.Common.{◌≡◌, ◌≢◌, ◌⊎◌, inl, inr, zero, suc, arith, Bool, true, false, cond, T, ◌&&◌, List, [], ◌∷◌, map, length, get_or, Option, Some, None, Ordering, Less, Equal, Greater, option_map, refl, sym, ap, ◌∙◌, true≢false}
 use Rattle.std.specs.Ordering.{eq_by_cmp, is_eq, is_lt, ordering_reverse}
-use Rattle.std.specs.List.{AllByRecursion}
+use Rattle.std.specs.List.{All, AllPairs, Contains}
 use Rattle.std.specs.Cmp.{IsTotalOrder, tied_itself, Equal-is}
 use Rattle.std.specs.FinMap.{FinMap, IsAntisymmetric, find, is_sorted, entries, entries_sorted, get, get-entries, insert, get-insert, remove, get-remove, retain_keys, get-retain_keys}
 use Rattle.std.specs.FinMap.Entries.{below_all}
-use Rattle.std.proofs.lemmas.Option.{same_Some}
-use Rattle.graph_core.proofs.Options.{none_some}
-use Rattle.graph_core.proofs.Each.{each_weaker}
+use Rattle.std.proofs.lemmas.Option.{same_Some, none-some}
+use Rattle.std.proofs.lemmas.List.Elements.{All-head, All-tail}
 
 -- two keys are one, or they are not, as the test says
 pub record Same {K : Type 0} (R : K → K → Ordering) (q k : K) : Type 0 where
@@ -55,7 +54,7 @@ module _ {K X : Type 0} {R : K → K → Ordering} (total : IsTotalOrder R) (sam
 
   passed : (b : Bool) (o : Option X) (v : X) → cond b o None ≡ Some v → (b ≡ true) × (o ≡ Some v)
   passed true o v is = (refl, is)
-  passed false o v is = absurd (none_some v refl is)
+  passed false o v is = absurd (none-some v is)
 
   pub kept_parts : (p : K → Bool) (q : K) (v : X) → get (retain_keys m p) q ≡ Some v → (p q ≡ true) × (get m q ≡ Some v)
   kept_parts p q v is = passed (p q) (get m q) v (sym (kept_at p q) ∙ is)
@@ -66,27 +65,51 @@ and_parts : (a b : Bool) → T (a && b) → T a × T b
 and_parts true b h = (tt, h)
 and_parts false b h = absurd h
 
-below_apart : (r : Ordering) → T (is_lt r) → is_eq (ordering_reverse r) ≡ false
-below_apart Less h = refl
-below_apart Equal h = absurd h
-below_apart Greater h = absurd h
+above_ties : (r : Ordering) → T (is_lt r) → is_eq r ≡ false
+above_ties Less h = refl
+above_ties Equal h = absurd h
+above_ties Greater h = absurd h
 
 module _ {K X : Type 0} {R : K → K → Ordering} (total : IsTotalOrder R) (same : IsAntisymmetric R) where
-  found_later : (e : K × X) (all es : List (K × X)) → T (below_all R e.0 es) → AllByRecursion (λ x. find R x.0 all ≡ Some x.1) es → AllByRecursion (λ x. find R x.0 (e ∷ all) ≡ Some x.1) es
-  found_later e all [] below found = tt
-  found_later e all (x ∷ es) below found =
-      let parts = and_parts (is_lt (R e.0 x.0)) (below_all R e.0 es) below in
-      let apart : eq_by_cmp R x.0 e.0 ≡ false = ap is_eq (total.antisymm x.0 e.0) ∙ below_apart (R e.0 x.0) parts.0 in
-      (ap (λ b. cond b (Some e.1) (find R x.0 all)) apart ∙ found.0, found_later e all es parts.1 found.1)
+  above_apart : (x : K) (es : List (K × X)) → T (below_all R x es) → All (λ e. x ≢ e.0) es
+  above_apart x [] below k d within = absurd (omega arith)
+  above_apart x (e ∷ es) below zero d within = λ is.
+      let parts = and_parts (is_lt (R x e.0)) (below_all R x es) below in
+      true≢false (sym (same_key total same x e.0 is) ∙ above_ties (R x e.0) parts.0)
+  above_apart x (e ∷ es) below (suc k) d within = above_apart x es (and_parts (is_lt (R x e.0)) (below_all R x es) below).1 k d (omega arith)
 
-  found_in : (es : List (K × X)) → T (is_sorted R es) → AllByRecursion (λ x. find R x.0 es ≡ Some x.1) es
-  found_in [] sorted = tt
-  found_in (e ∷ es) sorted =
-      let parts = and_parts (below_all R e.0 es) (is_sorted R es) sorted in
-      (ap (λ b. cond b (Some e.1) (find R e.0 es)) (same_key total same e.0 e.0 refl), found_later e es es parts.0 (found_in es parts.1))
+  -- no two entries of a map have one key
+  pub keys_apart : (es : List (K × X)) → T (is_sorted R es) → AllPairs (λ a b. a.0 ≢ b.0) es
+  keys_apart [] sorted i j d less within = absurd (omega arith)
+  keys_apart (e ∷ es) sorted i zero d less within = absurd (omega arith)
+  keys_apart (e ∷ es) sorted zero (suc j) d less within = above_apart e.0 es (and_parts (below_all R e.0 es) (is_sorted R es) sorted).0 j d (omega arith)
+  keys_apart (e ∷ es) sorted (suc i) (suc j) d less within = keys_apart es (and_parts (below_all R e.0 es) (is_sorted R es) sorted).1 i j d (omega arith) (omega arith)
 
-  pub each_found : (m : FinMap R X) → AllByRecursion (λ x. get m x.0 ≡ Some x.1) (entries m)
-  each_found m = each_weaker (λ x. find R x.0 (entries m) ≡ Some x.1) (λ x. get m x.0 ≡ Some x.1) (λ x found. get-entries m x.0 ∙ found) (entries m) (found_in (entries m) (entries_sorted m))
+  -- what is found stands in the list
+  pub contains_found : (es : List (K × X)) (key : K) (value : X) → find R key es ≡ Some value → Contains es (key, value)
+  contains_found [] key value found = absurd (none-some value found)
+  contains_found (e ∷ es) key value found =
+      elim (key_cases total same key e.0) [
+        | inl one ↦
+            let is : e.1 ≡ value = same_Some e.1 value (ap (λ b. cond b (Some e.1) (find R key es)) (sym one.test) ∙ found) in
+            (0, omega arith, λ i. (sym one.is i, is i))
+        | inr two ↦
+            let later = contains_found es key value (ap (λ b. cond b (Some e.1) (find R key es)) (sym two.test) ∙ found) in
+            (suc later.0, omega (arith, later.1), later.2)
+      ]
+
+  -- where no two have one key, what stands in the list is found
+  pub found_at : (es : List (K × X)) → AllPairs (λ a b. a.0 ≢ b.0) es → All (λ e. find R e.0 es ≡ Some e.1) es
+  found_at [] distinct k d within = absurd (omega arith)
+  found_at (e ∷ es) distinct zero d within = ap (λ b. cond b (Some e.1) (find R e.0 es)) (same_key total same e.0 e.0 refl)
+  found_at (e ∷ es) distinct (suc k) d within =
+      let key = (get_or es k d).0 in
+      let apart : key ≢ e.0 = λ is. distinct 0 (suc k) d (omega arith) within (sym is) in
+      ap (λ b. cond b (Some e.1) (find R key es)) (other_key total same key e.0 apart)
+      ∙ found_at es (λ i j x below inside. distinct (suc i) (suc j) x (omega arith) (omega arith)) k d (omega arith)
+
+  pub each_found : (m : FinMap R X) → All (λ e. get m e.0 ≡ Some e.1) (entries m)
+  each_found m = λ k d within. get-entries m (get_or (entries m) k d).0 ∙ found_at (entries m) (keys_apart (entries m) (entries_sorted m)) k d within
 
 -- Entries with new keys and new values
 
@@ -98,20 +121,20 @@ pub record Behind {K X J Y : Type 0} (f : K → J) (h : X → Y) (P : K × X →
   pub is_value : h entry.1 ≡ w
 
 module _ {K X J Y : Type 0} {R : K → K → Ordering} {S : J → J → Ordering} (total : IsTotalOrder R) (same : IsAntisymmetric R) (total_new : IsTotalOrder S) (same_new : IsAntisymmetric S) (f : K → J) (h : X → Y) where
-  pub renamed_found : (es : List (K × X)) (k : K) (v : X) → AllByRecursion (λ e. f e.0 ≡ f k → e.0 ≡ k) es → find R k es ≡ Some v → find S (f k) (map (λ e. (f e.0, h e.1)) es) ≡ Some (h v)
-  renamed_found [] k v apart is = absurd (none_some v refl is)
+  pub renamed_found : (es : List (K × X)) (k : K) (v : X) → All (λ e. f e.0 ≡ f k → e.0 ≡ k) es → find R k es ≡ Some v → find S (f k) (map (λ e. (f e.0, h e.1)) es) ≡ Some (h v)
+  renamed_found [] k v apart is = absurd (none-some v is)
   renamed_found (e ∷ es) k v apart is =
       elim (key_cases total same k e.0) [
         | inl one ↦ ap (λ b. cond b (Some (h e.1)) (find S (f k) (map (λ x. (f x.0, h x.1)) es))) (same_key total_new same_new (f k) (f e.0) (ap f one.is))
             ∙ ap (option_map h) (sym (ap (λ b. cond b (Some e.1) (find R k es)) one.test) ∙ is)
-        | inr two ↦ ap (λ b. cond b (Some (h e.1)) (find S (f k) (map (λ x. (f x.0, h x.1)) es))) (other_key total_new same_new (f k) (f e.0) (λ tied. two.is_not (sym (apart.0 (sym tied)))))
-            ∙ renamed_found es k v apart.1 (sym (ap (λ b. cond b (Some e.1) (find R k es)) two.test) ∙ is)
+        | inr two ↦ ap (λ b. cond b (Some (h e.1)) (find S (f k) (map (λ x. (f x.0, h x.1)) es))) (other_key total_new same_new (f k) (f e.0) (λ tied. two.is_not (sym (apart 0 e (omega arith) (sym tied)))))
+            ∙ renamed_found es k v (All-tail (λ x. f x.0 ≡ f k → x.0 ≡ k) e es apart) (sym (ap (λ b. cond b (Some e.1) (find R k es)) two.test) ∙ is)
       ]
 
-  pub renamed_behind : (P : K × X → Type 0) (es : List (K × X)) (q : J) (w : Y) → AllByRecursion P es → find S q (map (λ e. (f e.0, h e.1)) es) ≡ Some w → Behind f h P q w
-  renamed_behind P [] q w each is = absurd (none_some w refl is)
+  pub renamed_behind : (P : K × X → Type 0) (es : List (K × X)) (q : J) (w : Y) → All P es → find S q (map (λ e. (f e.0, h e.1)) es) ≡ Some w → Behind f h P q w
+  renamed_behind P [] q w each is = absurd (none-some w is)
   renamed_behind P (e ∷ es) q w each is =
       elim (key_cases total_new same_new q (f e.0)) [
-        | inl one ↦ record { entry = e; holds = each.0; is_key = sym one.is; is_value = same_Some (h e.1) w (sym (ap (λ b. cond b (Some (h e.1)) (find S q (map (λ x. (f x.0, h x.1)) es))) one.test) ∙ is) }
-        | inr two ↦ renamed_behind P es q w each.1 (sym (ap (λ b. cond b (Some (h e.1)) (find S q (map (λ x. (f x.0, h x.1)) es))) two.test) ∙ is)
+        | inl one ↦ record { entry = e; holds = All-head P e es each; is_key = sym one.is; is_value = same_Some (h e.1) w (sym (ap (λ b. cond b (Some (h e.1)) (find S q (map (λ x. (f x.0, h x.1)) es))) one.test) ∙ is) }
+        | inr two ↦ renamed_behind P es q w (All-tail P e es each) (sym (ap (λ b. cond b (Some (h e.1)) (find S q (map (λ x. (f x.0, h x.1)) es))) two.test) ∙ is)
       ]

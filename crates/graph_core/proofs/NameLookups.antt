@@ -3,14 +3,7 @@ use Rattle.std.proofs.Common.{◌≡◌, ◌≢◌, ℕ, Bool, cond, List, [], �
 use Rattle.std.specs.List.{AllZip}
 use Rattle.std.specs.Map.{lookup, IsKeyTest, AreApart, KeepsOthers}
 use Rattle.std.proofs.lemmas.Slice.Eq.{bytes_eq-Decides}
-use Rattle.graph_core.proofs.WireLists.{not_true}
-
--- a list of equal items is the list
-pub same_items : {A : Type 0} (xs ys : List A) → AllZip (λ x y. y ≡ x) xs ys → ys ≡ xs
-same_items [] [] zip = refl
-same_items [] (y ∷ ys) zip = absurd zip
-same_items (x ∷ xs) [] zip = absurd zip
-same_items (x ∷ xs) (y ∷ ys) zip = λ i. zip.0 i ∷ same_items xs ys zip.1 i
+use Rattle.std.proofs.lemmas.Bool.{false_from_ne_true}
 
 module _ {K : Type 0} (bytes : K → List ℕ) where
   -- whether the key has these bytes
@@ -21,7 +14,7 @@ module _ {K : Type 0} (bytes : K → List ℕ) where
   is_test name x y e = ap (λ n. bytes_eq n (bytes y)) ((bytes_eq-Decides name (bytes x)).0 e)
 
   tests_apart : (name other : List ℕ) → other ≢ name → AreApart (has name) (has other)
-  tests_apart name other apart key e = not_true (has other key) (λ f. apart ((bytes_eq-Decides other (bytes key)).0 f ∙ sym ((bytes_eq-Decides name (bytes key)).0 e)))
+  tests_apart name other apart key e = false_from_ne_true (has other key) (λ f. apart ((bytes_eq-Decides other (bytes key)).0 f ∙ sym ((bytes_eq-Decides name (bytes key)).0 e)))
 
   -- a change at one name keeps what stands under another
   pub others_kept : {X : Type 0} (name other : List ℕ) (old new : List (K × X)) → KeepsOthers (λ a b. bytes_eq (bytes a) (bytes b)) (has name) old new → other ≢ name → lookup (has other) new ≡ lookup (has other) old

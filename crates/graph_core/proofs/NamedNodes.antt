@@ -3,19 +3,18 @@ use Rattle.std.proofs.Common.{◌≡◌, ◌≢◌, ℕ, zero, suc, inl, inr, Li
 use Rattle.std.specs.Prelude.{slice_get, slice_set}
 use Rattle.std.specs.FinMap.{find}
 use Rattle.std.proofs.Math.Nat.{suc_inj}
-use Rattle.std.proofs.lemmas.Option.{same_Some}
+use Rattle.std.proofs.lemmas.Option.{same_Some, none-some}
 use Rattle.graph_core.specs.declared.node.Node.{Node}
 use Rattle.graph_core.specs.Name.{Name, name_cmp}
 use Rattle.graph_core.specs.Node.{Body, body_of}
 use Rattle.graph_core.specs.GraphValue.{flat, named, named_nodes}
-use Rattle.graph_core.proofs.Options.{none_some}
 use Rattle.graph_core.proofs.Maps.{same_key, key_cases}
 use Rattle.graph_core.proofs.Orders.{name_total, name_same}
 
 -- Slots after a change
 
 pub slot_kept : (slots more : List (Option Node)) (i : ℕ) (node : Node) → flat (slice_get slots i) ≡ Some node → flat (slice_get (slots ++ more) i) ≡ Some node
-slot_kept [] more i node live = absurd (none_some node refl live)
+slot_kept [] more i node live = absurd (none-some node live)
 slot_kept (slot ∷ slots) more zero node live = live
 slot_kept (slot ∷ slots) more (suc i) node live = slot_kept slots more i node live
 
@@ -43,8 +42,8 @@ abbrev pub IsAlone : List (Option Node) → ℕ → Name → Type 0
 IsAlone slots i name = (j : ℕ) (other : Node) → flat (slice_get slots j) ≡ Some other → other.name ≡ name → j ≡ i
 
 pub named_found : (slots : List (Option Node)) (i : ℕ) (node : Node) → flat (slice_get slots i) ≡ Some node → IsAlone slots i node.name → find name_cmp node.name (named_nodes slots) ≡ Some (body_of node)
-named_found [] i node live alone = absurd (none_some node refl live)
-named_found (None ∷ slots) zero node live alone = absurd (none_some node refl live)
+named_found [] i node live alone = absurd (none-some node live)
+named_found (None ∷ slots) zero node live alone = absurd (none-some node live)
 named_found (None ∷ slots) (suc i) node live alone = named_found slots i node live (λ j other is name. suc_inj (alone (suc j) other is name))
 named_found (Some first ∷ slots) zero node live alone =
     let is : first ≡ node = same_Some first node live in
@@ -67,7 +66,7 @@ later : (slot : Option Node) (slots : List (Option Node)) (name : Name) (body : 
 later slot slots name body s = record { index = suc s.index; node = s.node; live = s.live; is_name = s.is_name; is_body = s.is_body }
 
 pub named_behind : (slots : List (Option Node)) (name : Name) (body : Body) → find name_cmp name (named_nodes slots) ≡ Some body → SlotBehind slots name body
-named_behind [] name body found = absurd (none_some body refl found)
+named_behind [] name body found = absurd (none-some body found)
 named_behind (None ∷ slots) name body found = later None slots name body (named_behind slots name body found)
 named_behind (Some first ∷ slots) name body found =
     elim (key_cases name_total name_same name first.name) [

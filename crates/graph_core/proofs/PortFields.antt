@@ -1,11 +1,11 @@
 -- The fields of shapes that stand one after another, and shapes with the same fields.
 use Rattle.std.proofs.Common.{◌≡◌, ◌∙◌, ℕ, zero, suc, ◌+◌, ◌-◌, ◌<◌, ◌≤◌, List, [], ◌∷◌, ◌++◌, length, drop, get_or, slice_get, Option, Some, None, IsSome, Bool, true, false, true≢false, refl, sym, ap, arith}
 use Rattle.std.proofs.Math.Seq.{drop-cons}
-use Rattle.graph_core.proofs.Known.{same_Some, not_None}
 use Rattle.std.specs.Prelude.{nat_lt}
 use Rattle.std.proofs.lemmas.Bool.{ltb-true, ltb-false}
 use Rattle.std.proofs.lemmas.List.{length-append}
 use Rattle.std.specs.List.{concat}
+use Rattle.std.proofs.lemmas.Option.{same_Some, none-some}
 use Rattle.graph_core.specs.Fields.{field_of}
 
 slice_get-left : (xs ys : List ℕ) (k : ℕ) → k < length xs → slice_get (xs ++ ys) k ≡ slice_get xs k
@@ -42,11 +42,11 @@ same_fields (suc n) (x ∷ xs) [] few also same = let e : Some x ≡ None = same
 same_fields (suc n) (x ∷ xs) (y ∷ ys) few also same =
     let e : Some x ≡ Some y = same 0 (omega arith) in
     let rest = same_fields n xs ys (omega (arith, few)) (omega (arith, also)) (λ k below. same (suc k) (omega (arith, below))) in
-    λ i. same_Some e i ∷ rest i
+    λ i. same_Some _ _ e i ∷ rest i
 
 past_none : (xs : List ℕ) (n : ℕ) → None ≡ slice_get xs n → length xs ≤ n
 past_none [] n e = omega arith
-past_none (x ∷ xs) zero e = absurd (not_None (sym e))
+past_none (x ∷ xs) zero e = absurd (none-some _ e)
 past_none (x ∷ xs) (suc n) e = let rest = past_none xs n e in omega (arith, rest)
 
 -- all fields of the shape have been read

@@ -1,9 +1,10 @@
--- AllByRecursion port of a kind that meets its row has a shape.
+-- Each port of a kind that meets its row has a shape.
 use Rattle.std.proofs.Common.{◌≡◌, ℕ, zero, suc, ◌≤◌, List, [], ◌∷◌, length, map, replicate, Some, sym, subst, arith}
 use Rattle.std.specs.Prelude.{All}
 use Rattle.std.specs.List.{AllByRecursion, concat}
 use Rattle.std.proofs.lemmas.List.{length-append}
-use Rattle.std.proofs.lemmas.List.Elements.{All-append, All-nil}
+use Rattle.std.proofs.lemmas.List.Elements.{All-append, All-nil, All-head, All-replicate, All-tail, recursion_from_All}
+use Rattle.std.proofs.lemmas.Option.{same_Some, none-some}
 use Rattle.op_table.specs.declared.op.Op.{Op}
 use Rattle.op_table.specs.declared.op.Op.TheVariants.{Add, Sub, Mul, Udiv, Urem, Sdiv, Srem, And, Or, Xor, Shl, Lshr, Ashr, Eq, Ne, Ult, Ule, Ugt, Uge, Slt, Sle, Sgt, Sge, Select, Zext, Sext, Trunc, Ret}
 use Rattle.op_table.specs.Operator.{IsTypedOp, KeepsWidth, Compares, Chooses, Widens, Narrows, Passes}
@@ -14,21 +15,15 @@ use Rattle.graph_core.specs.declared.kind.Kind.{Kind}
 use Rattle.graph_core.specs.declared.kind.Kind.TheVariants.{Entry, Exit, Buffer, Fork, Join, Split, Operator, Constant, Source0, Sink0, Mux, Branch, Merge, CtrlMerge, Init, Tagger}
 use Rattle.graph_core.specs.Kind.{Shape, field, ins, outs, ports, KindOk}
 use Rattle.graph_core.specs.Name.{port_get}
-use Rattle.graph_core.proofs.Known.{same_Some, not_None}
 
 each_port : {A : Type 0} (P : A → Type 0) (xs : List A) (i : ℕ) (x : A) → AllByRecursion P xs → port_get xs i ≡ Some x → P x
-each_port P [] i x each e = absurd (not_None (sym e))
-each_port P (y ∷ ys) zero x each e = absurd (not_None (sym e))
-each_port P (y ∷ ys) (suc zero) x each e = subst P (same_Some e) each.0
+each_port P [] i x each e = absurd (none-some _ e)
+each_port P (y ∷ ys) zero x each e = absurd (none-some _ e)
+each_port P (y ∷ ys) (suc zero) x each e = subst P (same_Some _ _ e) each.0
 each_port P (y ∷ ys) (suc (suc i)) x each e = each_port P ys (suc i) x each.1 e
 
-each_all : {A : Type 0} (P : A → Type 0) (xs : List A) → All P xs → AllByRecursion P xs
-each_all P [] all = tt
-each_all P (x ∷ xs) all = (all 0 x (omega arith), each_all P xs (λ k d below. all (suc k) d (omega (arith, below))))
-
-each_same : {A : Type 0} (P : A → Type 0) (n : ℕ) (x : A) → P x → AllByRecursion P (replicate n x)
-each_same P zero x h = tt
-each_same P (suc n) x h = (h, each_same P n x h)
+all_one : (count : ℕ) (shape : Shape) → IsShape shape → AllByRecursion IsShape (replicate count shape)
+all_one count shape ok = recursion_from_All IsShape (replicate count shape) (All-replicate IsShape count shape ok)
 
 field_shape : (width : ℕ) → width ≤ 64 → IsShape (field width)
 field_shape width narrow = record { some = omega arith; few = omega arith; narrow = one }
@@ -102,7 +97,7 @@ ins_ok (Entry shape) ok = tt
 ins_ok (Exit shape) ok = (ok, tt)
 ins_ok (Buffer shape) ok = (ok, tt)
 ins_ok (Fork shape count) ok = (ok.0, tt)
-ins_ok (Join shapes) ok = each_all IsShape shapes ok.parts
+ins_ok (Join shapes) ok = recursion_from_All IsShape shapes ok.parts
 ins_ok (Split shapes) ok = (ok.whole, tt)
 ins_ok (Operator op widths width) ok = operands widths (narrow op widths width ok).all
 ins_ok (Constant shape width value) ok = (ok.0, tt)
@@ -110,8 +105,8 @@ ins_ok (Source0 shape) ok = tt
 ins_ok (Sink0 shape) ok = (ok, tt)
 ins_ok (Mux shape) ok = (one, (ok, (ok, tt)))
 ins_ok (Branch shape) ok = (ok, (one, tt))
-ins_ok (Merge shape count) ok = each_same IsShape count shape ok.0
-ins_ok (CtrlMerge shape count width) ok = each_same IsShape count shape ok.0
+ins_ok (Merge shape count) ok = all_one count shape ok.0
+ins_ok (CtrlMerge shape count width) ok = all_one count shape ok.0
 ins_ok (Init value mark) ok = (one, tt)
 ins_ok (Tagger shape tags) ok = (ok.0, (ok.1, tt))
 
@@ -119,9 +114,9 @@ pub outs_ok : (kind : Kind) → KindOk kind → AllByRecursion IsShape (outs kin
 outs_ok (Entry shape) ok = (ok, tt)
 outs_ok (Exit shape) ok = tt
 outs_ok (Buffer shape) ok = (ok, tt)
-outs_ok (Fork shape count) ok = each_same IsShape count shape ok.0
+outs_ok (Fork shape count) ok = all_one count shape ok.0
 outs_ok (Join shapes) ok = (ok.whole, tt)
-outs_ok (Split shapes) ok = each_all IsShape shapes ok.parts
+outs_ok (Split shapes) ok = recursion_from_All IsShape shapes ok.parts
 outs_ok (Operator op widths width) ok = (field_shape width (narrow op widths width ok).out, tt)
 outs_ok (Constant shape width value) ok = (field_shape width ok.1, tt)
 outs_ok (Source0 shape) ok = (ok, tt)
@@ -137,17 +132,14 @@ pub port_is_shape : (kind : Kind) → KindOk kind → (side : Side) (i : ℕ) (s
 port_is_shape kind ok Ins i shape e = each_port IsShape (ins kind) i shape (ins_ok kind ok) e
 port_is_shape kind ok Outs i shape e = each_port IsShape (outs kind) i shape (outs_ok kind ok) e
 
-all_tail : (shape : Shape) (shapes : List Shape) → All IsShape (shape ∷ shapes) → All IsShape shapes
-all_tail shape shapes all k d below = all (suc k) d (omega (arith, below))
-
 joined_narrow : (shapes : List Shape) → All IsShape shapes → All (λ width. width ≤ 64) (concat shapes)
 joined_narrow [] all = All-nil (λ width. width ≤ 64)
-joined_narrow (shape ∷ shapes) all = All-append (λ width. width ≤ 64) shape (concat shapes) (all 0 shape (omega arith)).narrow (joined_narrow shapes (all_tail shape shapes all))
+joined_narrow (shape ∷ shapes) all = All-append (λ width. width ≤ 64) shape (concat shapes) (All-head IsShape shape shapes all).narrow (joined_narrow shapes (All-tail IsShape shape shapes all))
 
 joined_some : (shapes : List Shape) → 1 ≤ length shapes → All IsShape shapes → 1 ≤ length (concat shapes)
 joined_some [] some all = absurd (omega (arith, some))
 joined_some (shape ∷ shapes) some all =
-    let first : 1 ≤ length shape = (all 0 shape (omega arith)).some in
+    let first : 1 ≤ length shape = (All-head IsShape shape shapes all).some in
     omega (arith, first, length-append shape (concat shapes))
 
 -- shapes with few fields together are a shape together

@@ -1,9 +1,8 @@
 -- Live nodes in a list of slots.
 use Rattle.std.proofs.Common.{◌≡◌, ◌⊎◌, inl, inr, ℕ, zero, suc, ◌<◌, List, [], ◌∷◌, ◌++◌, length, get_or, Option, Some, None, slice_get, slice_set, refl, sym, ap, arith}
-use Rattle.std.proofs.lemmas.Option.{slice_get-get_or}
+use Rattle.std.proofs.lemmas.Option.{slice_get-get_or, same_Some}
 use Rattle.graph_core.specs.declared.node.Node.{Node}
 use Rattle.graph_core.specs.GraphValue.{flat}
-use Rattle.graph_core.proofs.Known.{same_Some}
 
 -- what stands at an index is what reading it gives
 pub slot_at : (slots : List (Option Node)) (i : ℕ) (d : Option Node) → i < length slots → flat (slice_get slots i) ≡ get_or slots i d
@@ -19,7 +18,7 @@ slot_within (slot ∷ slots) (suc i) node live = omega (arith, slot_within slots
 
 -- what is live afterwards was live, or is the new node behind all others
 pub pushed_either : (slots : List (Option Node)) (node found : Node) (i : ℕ) → flat (slice_get (slots ++ Some node ∷ []) i) ≡ Some found → (flat (slice_get slots i) ≡ Some found) ⊎ ((i ≡ length slots) × (found ≡ node))
-pushed_either [] node found zero live = inr (refl, same_Some (sym live))
+pushed_either [] node found zero live = inr (refl, same_Some _ _ (sym live))
 pushed_either [] node found (suc i) live = let e : ◌≡◌ {A = Option Node} None (Some found) = live in cc
 pushed_either (slot ∷ slots) node found zero live = inl live
 pushed_either (slot ∷ slots) node found (suc i) live = elim (pushed_either slots node found i live) [ inl old ↦ inl old | inr new ↦ inr (ap suc new.0, new.1) ]

@@ -1,6 +1,7 @@
 -- A graph is typed by names exactly where none of its ports is open.
 use Rattle.std.proofs.Common.{◌≡◌, inl, inr, Some, IsSome, is_some, refl, sym, ap, subst, ◌∙◌}
 use Rattle.std.specs.FinMap as map
+use Rattle.std.proofs.lemmas.Option.{none-some}
 use Rattle.port_types.specs.declared.side.Side.{Side}
 use Rattle.port_types.specs.declared.side.Side.TheVariants.{Ins, Outs}
 use Rattle.graph_core.specs.declared.node.Node.{Node}
@@ -12,7 +13,7 @@ use Rattle.graph_core.specs.Node.{Body, body_of}
 use Rattle.graph_core.specs.NamedGraph.{IsTyped, IsWire}
 use Rattle.graph_core.specs.GraphValue.{GraphValue, node_at, shape_of, shape_at, name_of, named_graph, port_named, IsGraph}
 use Rattle.graph_core.specs.Wiring.{IsFree, IsOpen}
-use Rattle.graph_core.proofs.Options.{none_some, some_there, answer_cases}
+use Rattle.graph_core.proofs.Options.{some_there, answer_cases}
 use Rattle.graph_core.proofs.Feeds.{feeds_cases}
 use Rattle.graph_core.proofs.ByNames.{NodeBehind, node_found, node_behind, port_behind, same_port, wire_ends, wire_found, wire_behind, wire_none}
 
@@ -98,7 +99,7 @@ closed_at g ok typed Ins p there free =
     let shape = some_there (shape_at g Ins p) there in
     let port = port_behind (node_at g p.node) Ins p.port shape.0 shape.1 in
     let fed = typed.inputs (port_named g p) (body_of port.node) shape.0 (node_of_port g ok p (port_named g p) port.node port.live refl) port.has in
-    none_some fed.0 (wire_none g ok p port.node port.live free) fed.1
+    none-some fed.0 (sym (wire_none g ok p port.node port.live free) ∙ fed.1)
 closed_at g ok typed Outs p there free =
     let shape = some_there (shape_at g Outs p) there in
     let port = port_behind (node_at g p.node) Outs p.port shape.0 shape.1 in

@@ -3,35 +3,26 @@ use Rattle.std.proofs.Common.{◌≡◌, ◌≢◌, ◌<◌, ◌≤◌, ◌-◌,
 use Rattle.std.specs.FinMap as map
 use Rattle.std.specs.Map.{lookup}
 use Rattle.std.specs.Ordering.{eq_by_cmp, is_eq}
-use Rattle.std.specs.Cmp.{tied_itself, eq_by_cmp_equiv}
-use Rattle.std.specs.declared.cmp.Ordering.{Ordering}
-use Rattle.std.specs.declared.cmp.Ordering.TheVariants.{Less, Equal, Greater}
+use Rattle.std.specs.Cmp.{Equal-is, tied_itself, eq_by_cmp_equiv}
+use Rattle.std.proofs.lemmas.Option.{same_Some, none-some}
+use Rattle.std.proofs.lemmas.Bool.{false_from_ne_true}
 use Rattle.graph_core.specs.declared.place.NodeId.{NodeId}
 use Rattle.graph_core.specs.declared.place.PortAt.{PortAt}
 use Rattle.graph_core.specs.Place.{place_cmp}
-use Rattle.graph_core.specs.GraphValue.{is_at}
-use Rattle.graph_core.specs.Inside.{Feeders, AreInverse, is_kept}
+use Rattle.graph_core.specs.GraphValue.{is_at, Feeders, is_kept}
+use Rattle.graph_core.specs.Inside.{AreInverse}
 use Rattle.graph_core.proofs.Orders.{place_total, place_same}
-use Rattle.graph_core.proofs.Known.{not_None, same_Some}
+use Rattle.graph_core.proofs.Options.{none_either}
 
 -- two places are one, or they are not, as the test says
 pub here : (p : PortAt) → eq_by_cmp place_cmp p p ≡ true
 here p = ap is_eq (tied_itself place_total p)
 
-tied : (r : Ordering) → is_eq r ≡ true → r ≡ Equal
-tied Less e = absurd (true≢false (sym e))
-tied Equal e = refl
-tied Greater e = absurd (true≢false (sym e))
-
 pub same_place : (p q : PortAt) → eq_by_cmp place_cmp p q ≡ true → p ≡ q
-same_place p q e = place_same p q (tied _ e)
-
-pub not_true : (b : Bool) → (b ≡ true → ⊥) → b ≡ false
-not_true true h = absurd (h refl)
-not_true false h = refl
+same_place p q e = place_same p q ((Equal-is _).0 e)
 
 pub other_place : (p q : PortAt) → p ≢ q → eq_by_cmp place_cmp p q ≡ false
-other_place p q other = not_true _ (λ e. other (same_place p q e))
+other_place p q other = false_from_ne_true _ (λ e. other (same_place p q e))
 
 abbrev pub Entries : Type 0
 Entries = List (PortAt × PortAt)
@@ -70,11 +61,11 @@ turned_put into from into_new from_new target source put_into put_from free turn
   where
     at : (b : Bool) → eq_by_cmp place_cmp p target ≡ b → map.find place_cmp q from_new ≡ Some p
     at true e =
-        let is_source : source ≡ q = same_Some (ap (λ b. cond b (Some source) (map.find place_cmp p into)) (sym e) ∙ sym (put_into p) ∙ found) in
+        let is_source : source ≡ q = same_Some _ _ (ap (λ b. cond b (Some source) (map.find place_cmp p into)) (sym e) ∙ sym (put_into p) ∙ found) in
         put_from q ∙ ap (λ b. cond b (Some target) (map.find place_cmp q from)) (ap (λ s. eq_by_cmp place_cmp s source) (sym is_source) ∙ here source) ∙ ap Some (sym (same_place p target e))
     at false e =
         let was : map.find place_cmp q from ≡ Some p = turned p q (ap (λ b. cond b (Some source) (map.find place_cmp p into)) (sym e) ∙ sym (put_into p) ∙ found) in
-        put_from q ∙ ap (λ b. cond b (Some target) (map.find place_cmp q from)) (other_place q source (λ s. not_None (sym was ∙ ap (λ x. map.find place_cmp x from) s ∙ free))) ∙ was
+        put_from q ∙ ap (λ b. cond b (Some target) (map.find place_cmp q from)) (other_place q source (λ s. none-some p (sym free ∙ ap (λ x. map.find place_cmp x from) (sym s) ∙ was))) ∙ was
 
 pub AreInverse-put : (into from into_new from_new : Entries) (target source : PortAt) → Puts target (Some source) into into_new → Puts source (Some target) from from_new → map.find place_cmp target into ≡ None → map.find place_cmp source from ≡ None → AreInverse into from → AreInverse into_new from_new
 AreInverse-put into from into_new from_new target source put_into put_from target_free source_free ok =
@@ -102,10 +93,10 @@ turned_cut : (into from into_new from_new : Entries) (target source : PortAt) �
 turned_cut into from into_new from_new target source out_into out_from wired turned p q found = at (eq_by_cmp place_cmp p target) refl
   where
     at : (b : Bool) → eq_by_cmp place_cmp p target ≡ b → map.find place_cmp q from_new ≡ Some p
-    at true e = absurd (not_None (sym found ∙ out_into p ∙ ap (λ b. cond b None (map.find place_cmp p into)) e))
+    at true e = absurd (none-some q (sym (out_into p ∙ ap (λ b. cond b None (map.find place_cmp p into)) e) ∙ found))
     at false e =
         let was : map.find place_cmp q from ≡ Some p = turned p q (ap (λ b. cond b None (map.find place_cmp p into)) (sym e) ∙ sym (out_into p) ∙ found) in
-        let other : q ≢ source = λ s. true≢false (sym (ap (λ x. eq_by_cmp place_cmp x target) (same_Some (sym was ∙ ap (λ x. map.find place_cmp x from) s ∙ wired)) ∙ here target) ∙ e) in
+        let other : q ≢ source = λ s. true≢false (sym (ap (λ x. eq_by_cmp place_cmp x target) (same_Some _ _ (sym was ∙ ap (λ x. map.find place_cmp x from) s ∙ wired)) ∙ here target) ∙ e) in
         out_from q ∙ ap (λ b. cond b None (map.find place_cmp q from)) (other_place q source other) ∙ was
 
 pub AreInverse-cut : (into from into_new from_new : Entries) (target source : PortAt) → Puts target None into into_new → Puts source None from from_new → map.find place_cmp target into ≡ Some source → AreInverse into from → AreInverse into_new from_new
@@ -129,12 +120,8 @@ gone_where false b e = ap not e
 abbrev pub without : NodeId → Feeders → Feeders
 without id feeders = map.retain_keys feeders (is_kept id feeders)
 
-get-without : (id : NodeId) (m : Feeders) (q : PortAt) → map.get (without id m) q ≡ cond (is_kept id m q) (map.get m q) None
+pub get-without : (id : NodeId) (m : Feeders) (q : PortAt) → map.get (without id m) q ≡ cond (is_kept id m q) (map.get m q) None
 get-without id m q = map.get-retain_keys m (is_kept id m) q (λ p tied. ap (is_kept id m) (sym (place_same q p tied)))
-
-either : (b : Bool) → ◌≡◌ {A = Option PortAt} (cond b None None) None
-either true = refl
-either false = refl
 
 pub cut_same : (id : NodeId) (m : Feeders) (target : PortAt) → is_kept id m target ≡ false → without id (map.remove m target) ≡ without id m
 cut_same id m target away = map.same_map place_total place_same _ _ (λ q. get-without id (map.remove m target) q ∙ at q (eq_by_cmp place_cmp q target) refl ∙ sym (get-without id m q))
@@ -142,14 +129,14 @@ cut_same id m target away = map.same_map place_total place_same _ _ (λ q. get-w
     at : (q : PortAt) (b : Bool) → eq_by_cmp place_cmp q target ≡ b → cond (is_kept id (map.remove m target) q) (map.get (map.remove m target) q) None ≡ cond (is_kept id m q) (map.get m q) None
     at q true e =
         let gone : map.get (map.remove m target) q ≡ None = map.get-remove place_total m target q ∙ ap (λ b. cond b None (map.get m q)) e in
-        ap (λ o. cond (not (is_at id (Some q) || is_at id o)) o None) gone ∙ either _ ∙ sym (ap (λ b. cond b (map.get m q) None) (ap (is_kept id m) (same_place q target e) ∙ away))
+        ap (λ o. cond (not (is_at id (Some q) || is_at id o)) o None) gone ∙ none_either _ ∙ sym (ap (λ b. cond b (map.get m q) None) (ap (is_kept id m) (same_place q target e) ∙ away))
     at q false e = ap (λ o. cond (not (is_at id (Some q) || is_at id o)) o None) (map.get-remove place_total m target q ∙ ap (λ b. cond b None (map.get m q)) e)
 
 pub all_kept : (id : NodeId) (m : Feeders) → ((target : PortAt) → IsSome (map.get m target) → is_kept id m target ≡ true) → without id m ≡ m
 all_kept id m kept = map.same_map place_total place_same _ _ (λ q. get-without id m q ∙ at q (map.get m q) refl)
   where
     at : (q : PortAt) (o : Option PortAt) → map.get m q ≡ o → cond (is_kept id m q) (map.get m q) None ≡ map.get m q
-    at q None e = ap (λ o. cond (is_kept id m q) o None) e ∙ either _ ∙ sym e
+    at q None e = ap (λ o. cond (is_kept id m q) o None) e ∙ none_either _ ∙ sym e
     at q (Some source) e = ap (λ b. cond b (map.get m q) None) (kept q (ap is_some e))
 
 pub cut_shorter : (m : Feeders) (target : PortAt) → IsSome (map.get m target) → map.len (map.remove m target) < map.len m

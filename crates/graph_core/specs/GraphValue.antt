@@ -14,10 +14,14 @@ use Rattle.graph_core.specs.Kind.{Shape, ports}
 use Rattle.graph_core.specs.Node.{NodeOk, Body, body_of}
 use Rattle.graph_core.specs.NamedGraph.{NamedGraph}
 
+-- by its input, the output of each wire
+abbrev pub Feeders : Type 0
+Feeders = map.FinMap place_cmp PortAt
+
 -- nodes by index, and for each input that is on a wire the output that feeds it
 pub record GraphValue : Type 0 where
   pub slots : List (Option Node)
-  pub feeders : map.FinMap place_cmp PortAt
+  pub feeders : Feeders
 
 abbrev pub flat : {A : Type 0} → Option (Option A) → Option A
 flat None = None
@@ -99,13 +103,13 @@ with_slot g node = record g { slots = g.slots ++ Some node ∷ [] }
 abbrev pub with_feeder : GraphValue → PortAt → PortAt → GraphValue
 with_feeder g source target = record g { feeders = map.insert g.feeders target source }
 
+-- neither end of the wire into this input is a port of the node
+abbrev pub is_kept : NodeId → Feeders → PortAt → Bool
+is_kept id feeders target = not (is_at id (Some target) || is_at id (map.get feeders target))
+
 -- without the node of this id and the wires at its ports
 abbrev pub without_id : GraphValue → NodeId → GraphValue
-without_id g id =
-    record {
-      slots = slice_set g.slots (index_of id) None;
-      feeders = map.retain_keys g.feeders (λ target. not (is_at id (Some target) || is_at id (map.get g.feeders target)));
-    }
+without_id g id = record { slots = slice_set g.slots (index_of id) None; feeders = map.retain_keys g.feeders (is_kept id g.feeders) }
 
 -- each node may stand in a graph, no two have one name; each wire joins an output to an input of its shape, and no output is on two
 pub record IsGraph (g : GraphValue) : Type 0 where

@@ -1,5 +1,5 @@
 -- How a graph keeps its nodes and wires: a list of nodes, a table of their names, and wires by both their ends.
-use Rattle.std.specs.Prelude.{◌≡◌, ◌↔◌, ℕ, refl, Bool, not, ◌||◌, List, Option, Some, slice_get}
+use Rattle.std.specs.Prelude.{◌≡◌, ◌↔◌, ℕ, refl, List, Option, Some, slice_get}
 use Rattle.std.specs.Coded.{Coded, code_by, coded×, coded_list, coded_option}
 use Rattle.std.specs.FinMap as map
 use Rattle.graph_core.specs.declared.names.Names.{Names}
@@ -10,11 +10,7 @@ use Rattle.graph_core.specs.contracts.node.Node as node
 use Rattle.graph_core.specs.contracts.place.PortAt as place
 use Rattle.graph_core.specs.Place.{index_of, place_cmp}
 use Rattle.graph_core.specs.Names.{id_under}
-use Rattle.graph_core.specs.GraphValue.{GraphValue, flat, is_at}
-
--- by its input, the output of each wire
-abbrev pub Feeders : Type 0
-Feeders = map.FinMap place_cmp PortAt
+use Rattle.graph_core.specs.GraphValue.{GraphValue, Feeders, flat}
 
 -- feeders are stored as the list of their pairs
 abbrev pub feeders_code : Coded Feeders
@@ -31,10 +27,6 @@ value_of slots feeders = record { slots = slots; feeders = feeders }
 pub record AreInverse (into from : List (PortAt × PortAt)) : Type 0 where
   pub turned : (target source : PortAt) → map.find place_cmp target into ≡ Some source → map.find place_cmp source from ≡ Some target
   pub back : (target source : PortAt) → map.find place_cmp source from ≡ Some target → map.find place_cmp target into ≡ Some source
-
--- neither end of the wire into this input is a port of the node
-abbrev pub is_kept : NodeId → Feeders → PortAt → Bool
-is_kept id feeders target = not (is_at id (Some target) || is_at id (map.get feeders target))
 
 -- a live node with this name stands at this index
 abbrev pub IsNamedAt : List (Option Node) → ℕ → List ℕ → Type 0

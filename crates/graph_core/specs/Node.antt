@@ -1,20 +1,31 @@
 -- Nodes: what add_node asks of them, and a node without its name.
-use Rattle.std.specs.Prelude.{◌≢◌, ℕ, Bool, IsTrue, List, [], ◌∷◌, codes, bytes_eq, All, AllPairs}
+use Rattle.std.specs.Prelude.{◌≢◌, ℕ, Bool, not, IsTrue, List, [], ◌∷◌, codes, bytes_eq, filter, reverse, All, AllPairs}
 use Rattle.std.specs.List.{list_any}
 use Rattle.std.specs.FinMap.{FinMap, from_entries}
 use Rattle.graph_core.specs.declared.kind.Kind.{Kind}
-use Rattle.graph_core.specs.declared.kind.Kind.TheVariants.{Operator, Constant, Init, Tagger}
+use Rattle.graph_core.specs.declared.kind.Kind.TheVariants.{Entry, Exit, Buffer, Fork, Join, Split, Operator, Constant, Source0, Sink0, Mux, Branch, Merge, CtrlMerge, Init, Tagger}
 use Rattle.graph_core.specs.declared.node.Node.{Node}
 use Rattle.graph_core.specs.Name.{name_cmp, IsName}
 use Rattle.graph_core.specs.Kind.{KindOk}
 
 -- the keys of the attributes that the kind's row of the table names
 abbrev pub row_keys : Kind → List (List ℕ)
+row_keys (Entry shape) = []
+row_keys (Exit shape) = []
+row_keys (Buffer shape) = []
+row_keys (Fork shape count) = []
+row_keys (Join shapes) = []
+row_keys (Split shapes) = []
 row_keys (Operator op widths width) = codes "op" ∷ []
 row_keys (Constant shape width value) = codes "value" ∷ []
+row_keys (Source0 shape) = []
+row_keys (Sink0 shape) = []
+row_keys (Mux shape) = []
+row_keys (Branch shape) = []
+row_keys (Merge shape count) = []
+row_keys (CtrlMerge shape count width) = []
 row_keys (Init value mark) = codes "value" ∷ codes "ooo" ∷ []
 row_keys (Tagger shape tags) = codes "tags" ∷ []
-row_keys _ = []
 
 -- the keys of all attributes that the kind owns
 abbrev pub owned_keys : Kind → List (List ℕ)
@@ -26,6 +37,10 @@ is_owned kind key = list_any (bytes_eq key) (owned_keys kind)
 -- the key is that of an attribute which the kind owns, so it is no kept one
 abbrev pub IsOwned : Kind → List ℕ → Type 0
 IsOwned kind key = IsTrue (is_owned kind key)
+
+-- what a node of this kind keeps of these pairs: all but those that the kind owns, and of each key the last
+abbrev pub kept_of : Kind → List (List ℕ × List ℕ) → FinMap name_cmp (List ℕ)
+kept_of kind pairs = from_entries (filter (λ pair. not (is_owned kind pair.0)) (reverse pairs))
 
 -- different keys, of which the kind owns none
 pub record KeptOk (kind : Kind) (kept : List (List ℕ × List ℕ)) : Type 0 where

@@ -3,7 +3,7 @@ ghost use Rattle.std.specs.Prelude.{◌≡◌, IfOk};
 
 use crate::kind::Kind;
 use crate::node::Node;
-use port_types::{Items, NoMemory, Shape, Text};
+use port_types::{Items, NoMemory, Shape, Text, copy_pair};
 use std::alloc::Global;
 
 impl Kind {
@@ -68,9 +68,7 @@ fn copy_pairs(alloc: Global, pairs: &[(Text, Text)]) -> Result<Items<(Text, Text
 {
     let mut copies = Vec::new(alloc);
     for pair in pairs {
-        let key = pair.0.copy(alloc)?;
-        let value = pair.1.copy(alloc)?;
-        copies.push((key, value))?;
+        copies.push(copy_pair(alloc, pair)?)?;
     }
     Ok(Items::new(copies))
 }

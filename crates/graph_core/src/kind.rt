@@ -1,19 +1,13 @@
 ghost use Rattle.std.specs.Prelude.{◌≡◌, ◌↔◌, ◌≤◌, ◌^◌, IsTrue, All, length};
 ghost use Rattle.std.specs.List.{concat};
 ghost use Rattle.port_types.specs.Shape.{IsShape};
-ghost use Rattle.graph_core.specs.Kind.{ins, outs, KindOk, AreParts, IsCount};
+ghost use Rattle.graph_core.specs.Kind.{ins, outs, ports, KindOk, AreParts, IsCount};
 
-use op_table::{Op, typed_op};
-use port_types::{Items, Shape, is_shape};
+use op_table::{MAX_WIDTH, Op, typed_op};
+use port_types::{Items, MAX_FIELDS, Shape, Side, is_shape};
 
 /// The greatest number of ports of a side.
 const MAX_PORTS: u8 = 64;
-
-/// The greatest number of fields of a shape.
-const MAX_FIELDS: usize = 128;
-
-/// The greatest width of a field, in bits.
-const MAX_WIDTH: u8 = 64;
 
 /// The greatest number of tags.
 const MAX_TAGS: u16 = 256;
@@ -170,5 +164,16 @@ pub fn outputs(kind: &Kind) -> u8
         Kind::Branch(_) | Kind::CtrlMerge(..) | Kind::Tagger(..) => 2,
         Kind::Fork(_, count) => *count,
         Kind::Split(shapes) => shapes.as_slice().len() as u8,
+    }
+}
+
+/// How many ports a node of this kind has on a side.
+pub fn port_count(kind: &Kind, side: Side) -> u8
+    requires { KindOk kind.now }
+    ensures { result ≡ length (ports kind.now side) }
+{
+    match side {
+        Side::Ins => inputs(kind),
+        Side::Outs => outputs(kind),
     }
 }

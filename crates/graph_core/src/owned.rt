@@ -23,6 +23,17 @@ fn names(kind: &Kind, key: &[u8]) -> bool
         Kind::Constant(..) => key == b"value".as_slice(),
         Kind::Init(..) => key == b"value".as_slice() || key == b"ooo".as_slice(),
         Kind::Tagger(..) => key == b"tags".as_slice(),
-        _ => false,
+        Kind::Entry(_)
+        | Kind::Exit(_)
+        | Kind::Buffer(_)
+        | Kind::Fork(..)
+        | Kind::Join(_)
+        | Kind::Split(_)
+        | Kind::Source0(_)
+        | Kind::Sink0(_)
+        | Kind::Mux(_)
+        | Kind::Branch(_)
+        | Kind::Merge(..)
+        | Kind::CtrlMerge(..) => false,
     }
 }

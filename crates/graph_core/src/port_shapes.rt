@@ -4,23 +4,16 @@ ghost use Rattle.graph_core.specs.Kind.{ins, outs, ports, KindOk};
 ghost use Rattle.graph_core.specs.Name.{port_get};
 
 use crate::fields::field_at;
-use crate::kind::{Kind, inputs, outputs};
-use port_types::{NoMemory, Shape, Side};
+use crate::kind::{Kind, port_count};
+use port_types::{MAX_FIELDS, NoMemory, Shape, Side};
 use std::alloc::Global;
-
-/// The greatest number of fields of a shape.
-const MAX_FIELDS: usize = 128;
 
 /// Whether the kind has this port.
 pub(crate) fn has_port(kind: &Kind, side: Side, port: u8) -> bool
     requires { KindOk kind.now }
     ensures { IsTrue result ↔ IsSome (port_get (ports kind.now side) port) }
 {
-    let count = match side {
-        Side::Ins => inputs(kind),
-        Side::Outs => outputs(kind),
-    };
-    1 <= port && port <= count
+    1 <= port && port <= port_count(kind, side)
 }
 
 /// Whether an output and an input that are there have one shape. Takes no memory.

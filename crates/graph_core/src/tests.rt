@@ -1,276 +1,191 @@
-ghost use Rattle.std.specs.Prelude.{IfOk};
-ghost use Rattle.graph_core.specs.Node.{NodeOk};
+//! The worked rows of the table of components, and calls that take memory.
+ghost use Rattle.graph_core.specs.Kind.{KindOk};
 
+use crate::port_shapes::has_port;
 use crate::{
-    AddNode, AddWire, Graph, Kind, Node, NodeId, PortAt, PortOpen, check_typed, inputs, is_name,
-    kind_ok, outputs, port_shape,
+    Graph, Kind, Node, NodeId, PortAt, check_typed, is_name, kept_by_key, kind_ok, owns,
+    port_shape, same_graph,
 };
+use op_table::Op;
 use port_types::{Items, Shape, Side, Text};
 use std::alloc::Global;
 use std::test::Fail;
 
-fn shape_of(alloc: Global, width: u8) -> Result<Shape, Fail> {
-    Ok(Shape::new(vec![in alloc; width]?).ok_or("no shape")?)
+fn text_of(alloc: Global, text: &str) -> Result<Text, Fail> {
+    Ok(Text::new(text.as_bytes().to_vec(alloc)?).ok_or("no text")?)
 }
 
-fn text_of(alloc: Global, bytes: &[u8]) -> Result<Text, Fail> {
-    Ok(Text::new(bytes.to_vec(alloc)?).ok_or("no text")?)
+fn shape_of(alloc: Global, widths: &[u8]) -> Result<Shape, Fail> {
+    Ok(Shape::new(widths.to_vec(alloc)?).ok_or("no shape")?)
 }
 
-fn node_of(alloc: Global, name: &str, kind: Kind) -> Result<Node, Fail>
-    ensures { IfOk result NodeOk }
+/// Two shapes, of so many fields of one bit.
+fn parts_of(alloc: Global, first: usize, second: usize) -> Result<Items<Shape>, Fail> {
+    let mut shapes = Vec::new(alloc);
+    for count in [first, second] {
+        shapes.push(shape_of(alloc, &vec![in alloc; 1; count]?)?)?;
+    }
+    Ok(Items::new(shapes))
+}
+
+/// A kind with a list of widths or of shapes.
+fn several_of(alloc: Global, word: &str) -> Result<Kind, Fail> {
+    Ok(match word {
+        "Join" => Kind::Join(parts_of(alloc, 1, 2)?),
+        "Split" => Kind::Split(parts_of(alloc, 1, 2)?),
+        _ => Kind::Operator(Op::Select, Items::new([1, 8, 8].to_vec(alloc)?), 8),
+    })
+}
+
+/// The kind of this word, over tokens of two fields of 8 and 4 bits.
+fn kind_of(alloc: Global, word: &str) -> Result<Kind, Fail> {
+    let data = shape_of(alloc, &[8, 4])?;
+    Ok(match word {
+        "Entry" => Kind::Entry(data),
+        "Exit" => Kind::Exit(data),
+        "Buffer" => Kind::Buffer(data),
+        "Fork" => Kind::Fork(data, 2),
+        "Constant" => Kind::Constant(data, 5, 31),
+        "Source" => Kind::Source0(data),
+        "Sink" => Kind::Sink0(data),
+        "Mux" => Kind::Mux(data),
+        "Branch" => Kind::Branch(data),
+        "Merge" => Kind::Merge(data, 2),
+        "CntrlMerge" => Kind::CtrlMerge(data, 2, 1),
+        "Init" => Kind::Init(1, 256),
+        "Tagger" => Kind::Tagger(data, 5),
+        _ => several_of(alloc, word)?,
+    })
+}
+
+/// Appends the widths of the fields of each port of a side.
+fn push_side(text: &mut String, alloc: Global, kind: &Kind, side: Side) -> Result<(), Fail>
+    requires { KindOk kind.now }
 {
-    let name = text_of(alloc, name.as_bytes())?;
-    if !is_name(&name) || !kind_ok(&kind) {
-        return Err("no node".into());
-    }
-    Ok(Node {
-        name,
-        kind,
-        kept: Items::new(Vec::new(alloc)),
-    })
-}
-
-/// A graph with nodes of one name each: an entry, a buffer, a fork of two, an exit, and an exit of another shape.
-#[derive(Drop)]
-struct Parts {
-    g: Graph,
-    entry: NodeId,
-    buffer: NodeId,
-    fork: NodeId,
-    exit: NodeId,
-    narrow: NodeId,
-}
-
-fn added(g: &mut Graph, alloc: Global, name: &str, kind: Kind) -> Result<NodeId, Fail> {
-    let node = node_of(alloc, name, kind)?;
-    Ok(g.add_node(node).ok().ok_or("not added")?)
-}
-
-fn make_parts(alloc: Global) -> Result<Parts, Fail> {
-    let mut g = Graph::new(alloc);
-    let buffer = added(&mut g, alloc, "z", Kind::Buffer(shape_of(alloc, 8)?))?;
-    let entry = added(&mut g, alloc, "a", Kind::Entry(shape_of(alloc, 8)?))?;
-    let fork = added(&mut g, alloc, "a2", Kind::Fork(shape_of(alloc, 8)?, 2))?;
-    let narrow = added(&mut g, alloc, "Z", Kind::Exit(shape_of(alloc, 4)?))?;
-    let exit = added(&mut g, alloc, "a10", Kind::Exit(shape_of(alloc, 8)?))?;
-    Ok(Parts {
-        g,
-        entry,
-        buffer,
-        fork,
-        exit,
-        narrow,
-    })
-}
-
-fn port(node: NodeId, port: u8) -> PortAt {
-    PortAt { node, port }
-}
-
-fn open_at(node: NodeId, side: Side, port: u8) -> Result<(), PortOpen> {
-    Err(PortOpen { node, side, port })
-}
-
-#[test]
-fn names(rt: HostRuntime) -> Result<(), Fail> {
-    let alloc = rt.alloc();
-    for (bytes, want) in [
-        ([].as_slice(), false),
-        ([32].as_slice(), false),
-        ([33].as_slice(), true),
-        ([34].as_slice(), false),
-        ([92].as_slice(), false),
-        ([127].as_slice(), true),
-        ([0xc3, 0xa9].as_slice(), true),
-        ([97, 32, 98].as_slice(), false),
-        ([97; 255].as_slice(), true),
-        ([97; 256].as_slice(), false),
-    ] {
-        let name = text_of(alloc, bytes)?;
-        assert_eq!(rt; is_name(&name), want, "{bytes:?}");
-    }
-    Ok(())
-}
-
-#[test]
-fn counts_of_forks(rt: HostRuntime) -> Result<(), Fail> {
-    let alloc = rt.alloc();
-    for (count, want) in [(0, false), (1, true), (64, true), (65, false), (255, false)] {
-        let kind = Kind::Fork(shape_of(alloc, 8)?, count);
-        assert_eq!(rt; kind_ok(&kind), want, "{count}");
-        if kind_ok(&kind) {
-            assert_eq!(rt; inputs(&kind), 1, "{count}");
-            assert_eq!(rt; outputs(&kind), count);
+    for port in 1..=64 {
+        if has_port(kind, side, port) {
+            write!(text, "{:?}", port_shape(alloc, kind, side, port)?.widths())?;
         }
     }
     Ok(())
 }
 
-#[test]
-fn shape_of_a_port(rt: HostRuntime) -> Result<(), Fail> {
-    let alloc = rt.alloc();
-    let kind = Kind::Fork(shape_of(alloc, 8)?, 3);
-    assert!(rt; kind_ok(&kind));
-    let shape = port_shape(alloc, &kind, Side::Outs, 3)?;
-    assert_eq!(rt; shape.widths(), [8].as_slice());
-    Ok(())
+/// The ports of the kind, if it meets its row, and the keys that the row owns.
+fn row_of(alloc: Global, kind: &Kind) -> Result<String, Fail> {
+    let mut text = String::new(alloc);
+    if kind_ok(kind) {
+        push_side(&mut text, alloc, kind, Side::Ins)?;
+        text.push_str(" > ")?;
+        push_side(&mut text, alloc, kind, Side::Outs)?;
+    }
+    for key in ["op", "value", "ooo", "tags"] {
+        if owns(kind, key.as_bytes()) {
+            write!(text, " {key}")?;
+        }
+    }
+    Ok(text)
 }
 
 #[test]
-fn wires_are_added(rt: HostRuntime) -> Result<(), Fail> {
-    let Parts {
-        mut g,
-        entry,
-        buffer,
-        fork,
-        exit,
-        narrow,
-    } = make_parts(rt.alloc())?;
-    let (unknown, taken) = (Err(AddWire::UnknownPort), Err(AddWire::PortTaken));
-    for (source, target, answer, typed) in [
-        (
-            port(entry, 2),
-            port(buffer, 1),
-            unknown,
-            open_at(buffer, Side::Ins, 1),
-        ),
-        (
-            port(entry, 1),
-            port(buffer, 0),
-            unknown,
-            open_at(buffer, Side::Ins, 1),
-        ),
-        (
-            port(entry, 1),
-            port(buffer, 1),
-            Ok(()),
-            open_at(buffer, Side::Outs, 1),
-        ),
-        (
-            port(buffer, 1),
-            port(buffer, 1),
-            taken,
-            open_at(buffer, Side::Outs, 1),
-        ),
-        (
-            port(entry, 1),
-            port(narrow, 1),
-            taken,
-            open_at(buffer, Side::Outs, 1),
-        ),
-        (
-            port(buffer, 1),
-            port(narrow, 1),
-            Err(AddWire::ShapeDiffers),
-            open_at(buffer, Side::Outs, 1),
-        ),
-        (
-            port(buffer, 1),
-            port(fork, 1),
-            Ok(()),
-            open_at(fork, Side::Outs, 1),
-        ),
-        (
-            port(fork, 1),
-            port(exit, 1),
-            Ok(()),
-            open_at(fork, Side::Outs, 2),
-        ),
+fn rows_of_the_table(rt: HostRuntime) -> Result<(), Fail> {
+    for (word, row) in [
+        ("Entry", " > [8, 4]"),
+        ("Exit", "[8, 4] > "),
+        ("Buffer", "[8, 4] > [8, 4]"),
+        ("Fork", "[8, 4] > [8, 4][8, 4]"),
+        ("Join", "[1][1, 1] > [1, 1, 1]"),
+        ("Split", "[1, 1, 1] > [1][1, 1]"),
+        ("Operator", "[1][8][8] > [8] op"),
+        ("Constant", "[8, 4] > [5] value"),
+        ("Source", " > [8, 4]"),
+        ("Sink", "[8, 4] > "),
+        ("Mux", "[1][8, 4][8, 4] > [8, 4]"),
+        ("Branch", "[8, 4][1] > [8, 4][8, 4]"),
+        ("Merge", "[8, 4][8, 4] > [8, 4]"),
+        ("CntrlMerge", "[8, 4][8, 4] > [8, 4][1]"),
+        ("Init", "[1] > [1] value ooo"),
+        ("Tagger", "[8, 4][3, 8, 4] > [3, 8, 4][8, 4] tags"),
     ] {
-        assert_eq!(rt;
-            g.add_wire(source, target),
-            answer,
-            "{source:?} to {target:?}"
-        );
-        assert_eq!(rt; check_typed(&g), typed, "{source:?} to {target:?}");
-    }
-    for (target, source) in [
-        (port(fork, 1), Some(port(buffer, 1))),
-        (port(narrow, 1), None),
-    ] {
-        assert_eq!(rt; g.wire_into(target), source, "{target:?}");
-    }
-    for (source, target) in [(port(fork, 1), Some(port(exit, 1))), (port(fork, 2), None)] {
-        assert_eq!(rt; g.wire_from(source), target, "{source:?}");
+        let kind = kind_of(rt.alloc(), word)?.copy(rt.alloc())?;
+        assert_eq!(rt; row_of(rt.alloc(), &kind)?.as_str(), row, "{word}");
     }
     Ok(())
 }
 
 #[test]
-fn all_ports_on_wires(rt: HostRuntime) -> Result<(), Fail> {
-    let alloc = rt.alloc();
+fn limits_of_fields(rt: HostRuntime) -> Result<(), Fail> {
+    for (fields, want) in [(64, true), (65, false)] {
+        let join = Kind::Join(parts_of(rt.alloc(), 64, fields)?);
+        assert_eq!(rt; kind_ok(&join), want, "{fields}");
+    }
+    for (fields, want) in [(127, true), (128, false)] {
+        let widths = vec![in rt.alloc(); 1; fields]?;
+        let tagger = Kind::Tagger(shape_of(rt.alloc(), &widths)?, 256);
+        assert_eq!(rt; kind_ok(&tagger), want, "{fields}");
+    }
+    Ok(())
+}
+
+/// A node without kept attributes, added under the name.
+fn add(g: &mut Graph, alloc: Global, name: &str, kind: Kind) -> Result<NodeId, Fail> {
+    let name = text_of(alloc, name)?;
+    if !is_name(&name) || !kind_ok(&kind) {
+        return Err("no node".into());
+    }
+    let kept = Items::new(Vec::new(alloc));
+    Ok(
+        g.add_node(Node { name, kind, kept })
+            .ok()
+            .ok_or("not added")?,
+    )
+}
+
+fn first(node: NodeId) -> PortAt {
+    PortAt { node, port: 1 }
+}
+
+/// A wire from an Entry to an Exit, whose names stand the other way round.
+fn wire(alloc: Global) -> Result<Graph, Fail> {
     let mut g = Graph::new(alloc);
-    assert_eq!(rt; check_typed(&g), Ok(()));
-    let exit = added(&mut g, alloc, "out", Kind::Exit(shape_of(alloc, 8)?))?;
-    let entry = added(&mut g, alloc, "in", Kind::Entry(shape_of(alloc, 8)?))?;
-    assert_eq!(rt; g.add_wire(port(entry, 1), port(exit, 1)), Ok(()));
-    assert_eq!(rt; check_typed(&g), Ok(()));
-    Ok(())
+    let entry = add(&mut g, alloc, "a2", kind_of(alloc, "Entry")?)?;
+    let exit = add(&mut g, alloc, "a10", kind_of(alloc, "Exit")?)?;
+    g.add_wire(first(entry), first(exit)).ok().ok_or("no wire")?;
+    Ok(g)
 }
 
 #[test]
-fn a_copy_is_the_same(rt: HostRuntime) -> Result<(), Fail> {
-    let Parts {
-        mut g,
-        entry,
-        buffer,
-        exit,
-        ..
-    } = make_parts(rt.alloc())?;
-    assert_eq!(rt; g.add_wire(port(entry, 1), port(buffer, 1)), Ok(()));
-    assert!(rt; g.remove_node(exit).is_some());
+fn a_copy_is_the_same_graph(rt: HostRuntime) -> Result<(), Fail> {
+    let mut g = wire(rt.alloc())?;
     let copy = g.copy(rt.alloc())?;
-    assert_eq!(rt; (copy.slots(), g.slots()), (5, 5));
-    for index in 0..6 {
-        assert_eq!(rt; copy.id_at(index), g.id_at(index), "{index}");
-    }
-    assert_eq!(rt; copy.id_at(buffer.index()), Some(buffer));
-    assert_eq!(rt; copy.id_at(exit.index()), None);
-    assert_eq!(rt; copy.find(b"a2"), g.find(b"a2"));
-    assert_eq!(rt; copy.wire_into(port(buffer, 1)), Some(port(entry, 1)));
-    assert_eq!(rt; check_typed(&copy), check_typed(&g));
-    Ok(())
-}
-
-#[test]
-fn names_are_in_order(rt: HostRuntime) -> Result<(), Fail> {
-    let Parts {
-        mut g,
-        entry,
-        buffer,
-        fork,
-        exit,
-        narrow,
-    } = make_parts(rt.alloc())?;
+    assert!(rt; same_graph(&g, &copy) && check_typed(&copy).is_ok());
     let ids = g.by_name(rt.alloc())?;
-    assert_eq!(rt;
-        ids.as_slice(),
-        [narrow, entry, exit, fork, buffer].as_slice()
-    );
-    let twin = node_of(rt.alloc(), "a10", Kind::Entry(shape_of(rt.alloc(), 8)?))?;
-    assert_eq!(rt; g.add_node(twin), Err(AddNode::NameTaken));
+    assert_eq!(rt; ids.as_slice(), [NodeId::new(1), NodeId::new(0)].as_slice());
+    let exit = g.remove_node(ids[0]).ok_or("no node")?;
+    assert_eq!(rt; exit.name.as_str(), "a10");
+    assert!(rt; !same_graph(&g, &copy) && check_typed(&g).is_err());
     Ok(())
 }
 
-#[test]
-fn ids_of_others_stay(rt: HostRuntime) -> Result<(), Fail> {
-    let Parts {
-        mut g,
-        entry,
-        buffer,
-        exit,
-        ..
-    } = make_parts(rt.alloc())?;
-    assert_eq!(rt; g.add_wire(port(entry, 1), port(buffer, 1)), Ok(()));
-    assert_eq!(rt; g.add_wire(port(buffer, 1), port(exit, 1)), Ok(()));
-    let gone = g.remove_node(buffer).ok_or("no node")?;
-    assert_eq!(rt; gone.name.as_str(), "z");
-    assert!(rt; g.remove_node(buffer).is_none());
-    for (name, id) in [("z", None), ("a", Some(entry)), ("a10", Some(exit))] {
-        assert_eq!(rt; g.find(name.as_bytes()), id, "{name}");
+fn pairs_of(alloc: Global, pairs: &[(&str, &str)]) -> Result<Items<(Text, Text)>, Fail> {
+    let mut texts = Vec::new(alloc);
+    for (key, value) in pairs {
+        texts.push((text_of(alloc, key)?, text_of(alloc, value)?))?;
     }
-    assert!(rt; g.node(buffer).is_none());
-    assert_eq!(rt; check_typed(&g), open_at(entry, Side::Outs, 1));
+    Ok(Items::new(texts))
+}
+
+#[test]
+fn the_last_pair_of_a_key_is_kept(rt: HostRuntime) -> Result<(), Fail> {
+    let alloc = rt.alloc();
+    let name = text_of(alloc, "n")?;
+    let kind = kind_of(alloc, "Init")?;
+    let pairs = [("b", "1"), ("a", "2"), ("ooo", "x"), ("b", "3"), ("B", "4")];
+    let kept = pairs_of(alloc, pairs.as_slice())?;
+    let node = Node { name, kind, kept }.copy(alloc)?;
+    let mut text = node.name.as_str().to_string(alloc)?;
+    for pair in &kept_by_key(alloc, &node.kind, node.kept.as_slice())? {
+        write!(text, " {}={}", pair.0.as_str(), pair.1.as_str())?;
+    }
+    assert_eq!(rt; text.as_str(), "n B=4 a=2 b=3");
     Ok(())
 }

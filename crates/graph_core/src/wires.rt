@@ -2,8 +2,7 @@
 ghost use Rattle.std.specs.Prelude.{◌≡◌, ◌≢◌, true, false, Some, None, IsSome, IfSome, IfNone, IfOk, OnOk, OnErr};
 ghost use Rattle.std.specs.BTreeMap.{get};
 ghost use Rattle.std.specs.FinMap as map;
-ghost use Rattle.graph_core.specs.GraphValue.{is_at};
-ghost use Rattle.graph_core.specs.Inside.{is_kept};
+ghost use Rattle.graph_core.specs.GraphValue.{is_at, is_kept};
 ghost use Rattle.graph_core.specs.Place.{place_cmp};
 
 use crate::place::{NodeId, PortAt};
@@ -23,7 +22,8 @@ pub(crate) struct Wires {
 
 impl Model for Wires {
     ghost use Rattle.std.specs.FinMap as map;
-    ghost use Rattle.graph_core.specs.Inside.{Feeders, feeders_code, AreInverse};
+    ghost use Rattle.graph_core.specs.GraphValue.{Feeders};
+    ghost use Rattle.graph_core.specs.Inside.{feeders_code, AreInverse};
 
     ghost Value = { Feeders };
 

@@ -3,9 +3,9 @@ pub mod Lists
 pub mod Steps
 pub mod Sim
 pub mod Linking
-mod Sides
-mod TaggerRow
-mod Rows
+pub mod Sides
+pub mod TaggerRow
+pub mod Rows
 pub mod Fitting
 mod TaggerOrder
 pub mod Roots
@@ -29,10 +29,10 @@ mod GraphCircuits
 mod GraphBuffers
 mod LoneWire
 mod WireDrains
-mod MadeSteps
-mod Listed
+pub mod MadeSteps
+pub mod Listed
 mod LoneTagger
 mod TaggerRefuses
 mod LoneInit
-mod OneWay
+pub mod OneWay
 mod RestFound

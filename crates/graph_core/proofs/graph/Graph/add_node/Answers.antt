@@ -3,12 +3,12 @@ use Rattle.std.specs.FinMap as map
 use Rattle.graph_core.specs.declared.place.NodeId.{NodeId}
 use Rattle.graph_core.specs.GraphValue.{IsGraph, HasName, named_graph, with_slot}
 use Rattle.graph_core.specs.Inside.{value_of}
-use Rattle.graph_core.proofs.Known.{at_none, none_by}
 use Rattle.graph_core.proofs.Listed.{none_under}
 use Rattle.graph_core.proofs.KeepsGraph.{IsGraph-with_slot}
 use Rattle.graph_core.proofs.ByNamesAfter.{named_graph-with_slot}
 use Rattle.graph_core.proofs.graph.Graph.add_node.Goals as goal
 use Rattle.graph_core.proofs.graph.Graph.add_node.Goals.{Else-is_some, In-Ok}
+use Rattle.graph_core.proofs.Options.{at_none, none_by}
 
 no_key : (c : Else-is_some) → map.get (named_graph c.args.self.now).nodes c.args.node.name ≡ None
 no_key c = none_by _ (ap (λ name. map.contains_key (named_graph c.args.self.now).nodes name) (sym c.bytes.ensures.same) ∙ sym c.find.ensures.names ∙ sym c.is_some.ensures ∙ c.if-is_some.false)

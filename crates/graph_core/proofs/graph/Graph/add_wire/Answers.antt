@@ -1,11 +1,12 @@
 use Rattle.std.proofs.Common.{◌≡◌, ◌∙◌, rules, sym, ap, subst}
 use Rattle.std.specs.FinMap as map
+use Rattle.std.proofs.lemmas.Option.{none-some}
 use Rattle.graph_core.specs.GraphValue.{IsGraph, named_graph, with_feeder}
 use Rattle.graph_core.specs.Inside.{value_of}
 use Rattle.graph_core.proofs.Faults.{fitting}
 use Rattle.graph_core.proofs.KeepsGraph.{IsGraph-with_feeder}
 use Rattle.graph_core.proofs.ByNamesAfter.{named_graph-with_feeder}
-use Rattle.graph_core.proofs.Options.{none_some, some_there}
+use Rattle.graph_core.proofs.Options.{some_there}
 use Rattle.graph_core.proofs.CanWireByNames.{can_wire_where_fits, fits_where_can_wire}
 use Rattle.graph_core.proofs.WiredByNames.{is_taken_by_names}
 use Rattle.graph_core.proofs.graph.Graph.add_wire.Goals as goal
@@ -45,7 +46,7 @@ returns-in_err-try_wire-clause-can c from to can =
     let ok = subst IsGraph c.self.view_is c.self.invariant.0 in
     let source = some_there _ from in
     let target = some_there _ to in
-    absurd (none_some _ (fits_where_can_wire c.args.self.now ok c.args.source c.args.target source.0 target.0 source.1 target.1 can) c.in_err-try_wire.ensures)
+    absurd (none-some _ (sym (fits_where_can_wire c.args.self.now ok c.args.source c.args.target source.0 target.0 source.1 target.1 can) ∙ c.in_err-try_wire.ensures))
 
 pub returns-in_err-try_wire-clause-taken : goal.returns-in_err-try_wire-clause-taken
 returns-in_err-try_wire-clause-taken c = is_taken_by_names c.args.self.now (subst IsGraph c.self.view_is c.self.invariant.0) c.args.source c.args.target

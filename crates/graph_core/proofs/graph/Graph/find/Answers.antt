@@ -1,8 +1,9 @@
 use Rattle.std.proofs.Common.{◌∙◌, subst, sym}
+use Rattle.std.proofs.lemmas.Option.{none-some}
 use Rattle.graph_core.specs.GraphValue.{IsGraph, HasName}
-use Rattle.graph_core.proofs.Known.{if_some, if_none, not_None}
 use Rattle.graph_core.proofs.Finding.{name_is_key}
 use Rattle.graph_core.proofs.graph.Graph.find.Goals as goal
+use Rattle.graph_core.proofs.Options.{if_some, if_none}
 
 pub returns-clause-found : goal.returns-clause-found
 returns-clause-found c =
@@ -12,7 +13,7 @@ returns-clause-found c =
 pub returns-clause-none : goal.returns-clause-none
 returns-clause-none c =
     let name = c.args.name.now in
-    if_none c.get.result _ (λ e id has. not_None (sym ((c.self.invariant.1 name id).1 (subst (λ g. HasName g id name) (sym c.self.view_is) has)) ∙ sym c.get.ensures ∙ e))
+    if_none c.get.result _ (λ e id has. none-some id (sym e ∙ c.get.ensures ∙ (c.self.invariant.1 name id).1 (subst (λ g. HasName g id name) (sym c.self.view_is) has)))
 
 pub returns-clause-names : goal.returns-clause-names
 returns-clause-names c =

@@ -1,9 +1,9 @@
 use Rattle.std.proofs.Common.{refl, subst}
 use Rattle.graph_core.specs.Node.{NodeOk}
 use Rattle.graph_core.specs.GraphValue.{IsGraph, node_at}
-use Rattle.graph_core.proofs.Known.{if_some}
 use Rattle.graph_core.proofs.ByNames.{node_found}
 use Rattle.graph_core.proofs.graph.Graph.node.Goals as goal
+use Rattle.graph_core.proofs.Options.{if_some}
 
 pub returns-clause-right : goal.returns-clause-right
 returns-clause-right c =

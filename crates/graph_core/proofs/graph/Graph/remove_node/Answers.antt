@@ -1,12 +1,12 @@
 use Rattle.std.proofs.Common.{◌≡◌, ◌∙◌, sym, ap, subst, slice_set, None}
 use Rattle.graph_core.specs.GraphValue.{IsGraph, node_at, named_graph, without_id}
 use Rattle.graph_core.specs.Inside.{value_of}
-use Rattle.graph_core.proofs.Known.{if_some, if_none}
 use Rattle.graph_core.proofs.KeepsGraph.{IsGraph-without_id}
 use Rattle.graph_core.proofs.Changes.{without_id-dead}
 use Rattle.graph_core.proofs.ByNamesAfter.{named_graph-without_id}
 use Rattle.graph_core.proofs.graph.Graph.remove_node.Goals as goal
 use Rattle.graph_core.proofs.graph.Graph.remove_node.Goals.{After-remove_at}
+use Rattle.graph_core.proofs.Options.{if_some, if_none}
 
 emptied : (c : After-remove_at) → c.take_named-node.new.nodes.items ≡ slice_set c.self.inside.nodes.items c.args.id.index None
 emptied c = c.take_named-node.ensures.emptied

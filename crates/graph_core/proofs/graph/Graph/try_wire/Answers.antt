@@ -1,8 +1,7 @@
 use Rattle.std.proofs.Common.{◌∙◌, rules, sym, ap, is_some, true≢false}
 use Rattle.graph_core.specs.Kind.{KindOk}
 use Rattle.port_types.specs.declared.side.Side.TheVariants.{Ins, Outs}
-use Rattle.graph_core.proofs.Known.{at_some, at_none, none_by}
-use Rattle.graph_core.proofs.Options.{some_there}
+use Rattle.graph_core.proofs.Options.{some_there, at_some, at_none, none_by}
 use Rattle.graph_core.proofs.Faults.{Owned, shaped, one_shape, two_shapes, fault_into, fault_from, fault_none, fault_shape}
 use Rattle.graph_core.proofs.graph.Graph.try_wire.Goals as goal
 use Rattle.graph_core.proofs.graph.Graph.try_wire.Goals.{In_ok-to, then-is_some-via-then-is_some, then-is_some-via-else-is_some+then-is_some-2}

@@ -3,8 +3,7 @@ use Rattle.std.specs.FinMap as map
 use Rattle.graph_core.specs.declared.place.PortAt.{PortAt}
 use Rattle.graph_core.specs.GraphValue.{IsGraph, node_at, port_named}
 use Rattle.port_types.specs.declared.side.Side.TheVariants.{Ins}
-use Rattle.graph_core.proofs.Known.{if_some, if_none, at_some, at_none}
-use Rattle.graph_core.proofs.Options.{some_there}
+use Rattle.graph_core.proofs.Options.{some_there, if_some, if_none, at_some, at_none}
 use Rattle.graph_core.proofs.ByNames.{wire_found, wire_behind, wire_ends, same_port}
 use Rattle.graph_core.proofs.Finding.{live_where_shaped}
 use Rattle.graph_core.proofs.graph.Graph.wire_from.Goals as goal

@@ -2,9 +2,9 @@ use Rattle.std.proofs.Common.{◌∙◌, sym, ap, subst}
 use Rattle.std.specs.FinMap as map
 use Rattle.graph_core.specs.GraphValue.{IsGraph}
 use Rattle.port_types.specs.declared.side.Side.TheVariants.{Outs}
-use Rattle.graph_core.proofs.Known.{if_some}
 use Rattle.graph_core.proofs.Finding.{live_where_shaped, feeder_named}
 use Rattle.graph_core.proofs.graph.Graph.wire_into.Goals as goal
+use Rattle.graph_core.proofs.Options.{if_some}
 
 pub returns-clause-feeder : goal.returns-clause-feeder
 returns-clause-feeder c = c.source_of.ensures ∙ ap (λ g. map.get g.feeders c.args.target) c.self.view_is

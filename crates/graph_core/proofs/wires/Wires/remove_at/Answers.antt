@@ -1,10 +1,10 @@
 use Rattle.std.proofs.Common.{◌≡◌, ◌∙◌, ◌<◌, true, false, IsSome, rules, sym, ap, subst}
 use Rattle.std.specs.FinMap as map
 use Rattle.graph_core.specs.declared.place.PortAt.{PortAt}
-use Rattle.graph_core.specs.Inside.{is_kept}
 use Rattle.graph_core.proofs.WireLists.{without, cut_same, cut_shorter, all_kept}
 use Rattle.graph_core.proofs.wires.Wires.remove_at.Goals as goal
 use Rattle.graph_core.proofs.wires.Wires.remove_at.Goals.{In-Some}
+use Rattle.graph_core.specs.GraphValue.{is_kept}
 
 found : (c : In-Some) → (is_kept c.args.id c.loop-target.self c.in-Some.target ≡ false) × IsSome (map.get c.loop-target.self c.in-Some.target)
 found c = search rules

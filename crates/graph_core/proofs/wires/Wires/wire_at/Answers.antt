@@ -1,13 +1,14 @@
 use Rattle.std.proofs.Common.{◌≡◌, ◌∙◌, ◌||◌, true, false, not, Some, None, is_some, rules, sym, ap}
 use Rattle.std.specs.FinMap as map
 use Rattle.std.specs.BTreeMap.{get}
+use Rattle.std.proofs.lemmas.Bool.{false_from_ne_true}
+use Rattle.std.proofs.lemmas.Option.{none-some}
 use Rattle.graph_core.specs.declared.place.PortAt.{PortAt}
 use Rattle.graph_core.specs.GraphValue.{is_at}
 use Rattle.graph_core.specs.Place.{place_cmp}
-use Rattle.graph_core.proofs.Known.{if_none, not_None}
-use Rattle.graph_core.proofs.Options.{some_there}
+use Rattle.graph_core.proofs.Options.{some_there, if_none}
 use Rattle.graph_core.proofs.Orders.{place_total}
-use Rattle.graph_core.proofs.WireLists.{lookup_is_find, gone_where, not_true}
+use Rattle.graph_core.proofs.WireLists.{lookup_is_find, gone_where}
 use Rattle.graph_core.proofs.wires.Wires.wire_at.Goals as goal
 use Rattle.graph_core.proofs.wires.Wires.wire_at.Goals.{After-first_at}
 
@@ -30,9 +31,9 @@ returns-in_err-target-clause-none c =
     let no_input : (port : PortAt) → is_at c.args.id (Some port) ≡ true → get place_cmp c.self.inside.into port ≡ None = search rules in
     let no_output : (port : PortAt) → is_at c.args.id (Some port) ≡ true → get place_cmp c.self.inside.from port ≡ None = search rules in
     let found : map.find place_cmp target c.self.inside.into.entries ≡ Some source.0 = sym (feeder at target) ∙ source.1 in
-    let input_away : is_at c.args.id (Some target) ≡ false = not_true _ (λ e. not_None (sym found ∙ sym (lookup_is_find target c.self.inside.into.entries) ∙ no_input target e)) in
+    let input_away : is_at c.args.id (Some target) ≡ false = false_from_ne_true _ (λ e. none-some source.0 (sym (no_input target e) ∙ lookup_is_find target c.self.inside.into.entries ∙ found)) in
     let output_away : is_at c.args.id (Some source.0) ≡ false =
-    not_true _ (λ e. not_None (sym (c.self.invariant.turned target source.0 found) ∙ sym (lookup_is_find source.0 c.self.inside.from.entries) ∙ no_output source.0 e)) in
+    false_from_ne_true _ (λ e. none-some target (sym (no_output source.0 e) ∙ lookup_is_find source.0 c.self.inside.from.entries ∙ c.self.invariant.turned target source.0 found)) in
     λ i. not (input_away i || (ap (is_at c.args.id) source.1 ∙ output_away) i))
 
 pub returns-clause-some : goal.returns-clause-some
