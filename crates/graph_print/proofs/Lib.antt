@@ -5,4 +5,3 @@ pub mod WholeDocument
 pub mod PortsInOrder
 mod WiresInOrder
 mod Markers
-pub mod KeptOrder

@@ -70,7 +70,7 @@ yes = Some 43
 abbrev pub no : Option ℕ
 no = Some 45
 
--- the marker of the port of this number
+-- the marker of the operand of this number of a select
 abbrev pub select_marker : ℕ → Option ℕ
 select_marker number = if number == 1 then condition else (if number == 2 then yes else no)
 
@@ -78,13 +78,28 @@ abbrev pub operand_marker : Op → ℕ → Option ℕ
 operand_marker Select number = select_marker number
 operand_marker _ number = None
 
+-- the marker of the port of this number
 abbrev pub marker : Kind → Side → ℕ → Option ℕ
+marker (Entry shape) side number = None
+marker (Exit shape) side number = None
+marker (Buffer shape) side number = None
+marker (Fork shape count) side number = None
+marker (Join shapes) side number = None
+marker (Split shapes) side number = None
 marker (Operator op widths width) Ins number = operand_marker op number
+marker (Operator op widths width) Outs number = None
+marker (Constant shape width value) side number = None
+marker (Source0 shape) side number = None
+marker (Sink0 shape) side number = None
 marker (Mux shape) Ins number = if number == 1 then condition else None
+marker (Mux shape) Outs number = None
 marker (Branch shape) Ins number = if number == 2 then condition else None
 marker (Branch shape) Outs number = if number == 1 then yes else no
+marker (Merge shape count) side number = None
+marker (CtrlMerge shape count width) Ins number = None
 marker (CtrlMerge shape count width) Outs number = if number == 2 then condition else None
-marker kind side number = None
+marker (Init value mark) side number = None
+marker (Tagger shape tags) side number = None
 
 -- the ports of these shapes, from this number on, with their markers
 abbrev pub marked_from : Kind → Side → ℕ → List Shape → List PrintedPort

@@ -45,7 +45,23 @@ pub(crate) fn marker(kind: &Kind, side: Side, number: u8) -> Option<u8>
         (Kind::Branch(_), Side::Ins) => mark_at(number, 2, b'?'),
         (Kind::Branch(_), Side::Outs) => Some(if number == 1 { b'+' } else { b'-' }),
         (Kind::CtrlMerge(..), Side::Outs) => mark_at(number, 2, b'?'),
-        _ => None,
+        (Kind::Operator(..) | Kind::Mux(_), Side::Outs)
+        | (Kind::CtrlMerge(..), Side::Ins)
+        | (
+            Kind::Entry(_)
+            | Kind::Exit(_)
+            | Kind::Buffer(_)
+            | Kind::Fork(..)
+            | Kind::Join(_)
+            | Kind::Split(_)
+            | Kind::Constant(..)
+            | Kind::Source0(_)
+            | Kind::Sink0(_)
+            | Kind::Merge(..)
+            | Kind::Init(..)
+            | Kind::Tagger(..),
+            Side::Ins | Side::Outs,
+        ) => None,
     }
 }
 
@@ -94,7 +110,18 @@ pub(crate) fn push_own(
             push_mark(alloc, pairs, *mark)
         }
         Kind::Tagger(_, tags) => push_pair(alloc, pairs, "tags", decimal(alloc, *tags)?),
-        _ => Ok(()),
+        Kind::Entry(_)
+        | Kind::Exit(_)
+        | Kind::Buffer(_)
+        | Kind::Fork(..)
+        | Kind::Join(_)
+        | Kind::Split(_)
+        | Kind::Source0(_)
+        | Kind::Sink0(_)
+        | Kind::Mux(_)
+        | Kind::Branch(_)
+        | Kind::Merge(..)
+        | Kind::CtrlMerge(..) => Ok(()),
     }
 }
 

@@ -2,6 +2,9 @@
 //!
 //! - `text_of`: the canonical text.
 //! - `kind_word`: the word of a kind, as the `type` of a node.
+//!
+//! A node stands on a line, as `"a" [type = "Entry", out = "out1:8"];`, and so does a wire, as
+//! `"a" -> "z" [from = "out1", to = "in1"];`.
 #![tactic(auto)]
 
 mod document;

@@ -35,6 +35,6 @@ fn pairs_of(alloc: Global, node: &Node) -> Result<Items<(Text, Text)>, NoMemory>
     push_side(alloc, &mut pairs, &node.kind, Side::Ins)?;
     push_side(alloc, &mut pairs, &node.kind, Side::Outs)?;
     push_own(alloc, &mut pairs, &node.kind)?;
-    push_kept(alloc, &mut pairs, node.kept.as_slice())?;
+    push_kept(alloc, &mut pairs, &node.kind, node.kept.as_slice())?;
     Ok(Items::new(pairs))
 }

@@ -1,13 +1,13 @@
 //! The texts of the ports of a side. The only error of each call is want of memory.
 
-ghost use Rattle.std.specs.Prelude.{◌≡◌, ◌++◌, IfOk, IsTrue, OnOk, length};
+ghost use Rattle.std.specs.Prelude.{◌≡◌, ◌++◌, IfOk, IsTrue, OnOk};
 ghost use Rattle.port_types.specs.PortGrammar.{are_marked};
-ghost use Rattle.graph_core.specs.Kind.{KindOk, ports};
+ghost use Rattle.graph_core.specs.Kind.{KindOk};
 ghost use Rattle.graph_print.specs.CanonicalText.{side_pairs, marked_ports};
 
 use crate::kinds::marker;
 use crate::texts::push_pair;
-use graph_core::{Kind, inputs, outputs, port_shape};
+use graph_core::{Kind, port_count, port_shape};
 use port_types::{NoMemory, Port, Side, Text, print_ports};
 use std::alloc::Global;
 
@@ -41,15 +41,4 @@ fn marked_ports(alloc: Global, kind: &Kind, side: Side) -> Result<Vec<Port>, NoM
         ports.push(Port { marker, shape })?;
     }
     Ok(ports)
-}
-
-/// How many ports a node of this kind has on a side.
-fn port_count(kind: &Kind, side: Side) -> u8
-    requires { KindOk kind.now }
-    ensures { result ≡ length (ports kind.now side) }
-{
-    match side {
-        Side::Ins => inputs(kind),
-        Side::Outs => outputs(kind),
-    }
 }

@@ -23,12 +23,13 @@ use Rattle.graph_read.specs.declared.fault.GraphFaultKind.TheVariants.{BadPorts,
 use Rattle.graph_read.specs.Attributes.{Pair, last_value, value_of, tags_within, tags_of}
 use Rattle.graph_read.specs.Rows.{Reading, all_are, are_fields, operator_at, operator_named, operator_typed, constant_at, constant_of, constant_with, init_at, init_with, init_marked, start_of, mark_of, tagger_at, tagger_of, tagger_with, row_reading}
 use Rattle.graph_read.specs.Laws.{MeetsRow, AreRead}
-use Rattle.graph_read.proofs.RowsMet.{same_kind, refused, same_shape, same_shapes, becomes, entry-met, exit-met, buffer-met, fork-met, join-met, split-met, source-met, sink-met, mux-met, branch-met, merge-met, ctrl_merge-met}
+use Rattle.graph_read.proofs.Answers.{same_answer, refused}
+use Rattle.graph_read.proofs.RowsMet.{same_shape, same_shapes, becomes, entry-met, exit-met, buffer-met, fork-met, join-met, split-met, source-met, sink-met, mux-met, branch-met, merge-met, ctrl_merge-met}
 
 -- ---- answers
 
 if_read : (test : Bool) (found k : Kind) (fault : GraphFaultKind) → ◌≡◌ {A = Reading} (cond test (Ok found) (Err fault)) (Ok k) → (test ≡ true) × (found ≡ k)
-if_read true found k fault e = (refl, same_kind found k e)
+if_read true found k fault e = (refl, same_answer found k e)
 if_read false found k fault e = refused fault k e
 
 then_read : (test : Bool) (reading : Reading) (k : Kind) (fault : GraphFaultKind) → ◌≡◌ {A = Reading} (cond test reading (Err fault)) (Ok k) → (test ≡ true) × (reading ≡ Ok k)
@@ -103,7 +104,7 @@ module _ (k : Kind) where
   valued_found : (shape : Shape) (width : ℕ) (given : Option ℕ) → constant_with shape width given ≡ Ok k →
       (value : ℕ) × (given ≡ Some value) × (kind.TheVariants.Constant shape width value ≡ k)
   valued_found shape width None e = refused BadValue k e
-  valued_found shape width (Some value) e = (value, refl, same_kind (kind.TheVariants.Constant shape width value) k e)
+  valued_found shape width (Some value) e = (value, refl, same_answer (kind.TheVariants.Constant shape width value) k e)
 
   constant_found : (shape : Shape) (width : ℕ) (given : Option (List ℕ)) → constant_of shape width given ≡ Ok k →
       (value : ℕ) × ((text : List ℕ) × (given ≡ Some text) × (value_of text ≡ Some value)) × (kind.TheVariants.Constant shape width value ≡ k)
@@ -114,7 +115,7 @@ module _ (k : Kind) where
 
   marked_found : (value : ℕ) (given : Option ℕ) → init_marked value given ≡ Ok k → (mark : ℕ) × (given ≡ Some mark) × (kind.TheVariants.Init value mark ≡ k)
   marked_found value None e = refused BadTags k e
-  marked_found value (Some mark) e = (mark, refl, same_kind (kind.TheVariants.Init value mark) k e)
+  marked_found value (Some mark) e = (mark, refl, same_answer (kind.TheVariants.Init value mark) k e)
 
   init_found : (start : Option ℕ) (given : Option (List ℕ)) → init_with start given ≡ Ok k →
       (value : ℕ) × (mark : ℕ) × (start ≡ Some value) × (value ≤ 1) × (mark_of given ≡ Some mark) × (kind.TheVariants.Init value mark ≡ k)
@@ -141,23 +142,23 @@ module _ (k : Kind) where
   -- ---- the rows
 
   module _ (pairs : List Pair) where
-    pub operator-met : WidthsAreTested → (given fed : List Shape) → operator_at given fed (last_value (codes "op") pairs) ≡ Ok k → MeetsRow component.TheVariants.Operator given fed pairs k
-    operator-met tested given ((width ∷ []) ∷ []) e =
-        let fields = then_read (are_fields given) (operator_named (concat given) width (last_value (codes "op") pairs)) k BadPorts e in
-        let found = operator_found (concat given) width (last_value (codes "op") pairs) fields.1 in
-        becomes component.TheVariants.Operator given ((width ∷ []) ∷ []) pairs (kind.TheVariants.Operator found.0 (concat given) width) k found.3
-        (record { is = refl; ok = (tested found.0 (concat given) width).0 found.2; ports = (fields_are given fields.0, refl); says = found.1 })
-    operator-met tested given fed e = refused BadPorts k e
+    pub operator-met : WidthsAreTested → (inputs outputs : List Shape) → operator_at inputs outputs (last_value (codes "op") pairs) ≡ Ok k → MeetsRow component.TheVariants.Operator inputs outputs pairs k
+    operator-met tested inputs ((width ∷ []) ∷ []) e =
+        let fields = then_read (are_fields inputs) (operator_named (concat inputs) width (last_value (codes "op") pairs)) k BadPorts e in
+        let found = operator_found (concat inputs) width (last_value (codes "op") pairs) fields.1 in
+        becomes component.TheVariants.Operator inputs ((width ∷ []) ∷ []) pairs (kind.TheVariants.Operator found.0 (concat inputs) width) k found.3
+        (record { is = refl; ok = (tested found.0 (concat inputs) width).0 found.2; ports = (fields_are inputs fields.0, refl); says = found.1 })
+    operator-met tested inputs outputs e = refused BadPorts k e
 
-    pub constant-met : (given fed : List Shape) → AreRead given → AreRead fed → constant_at given fed (last_value (codes "value") pairs) ≡ Ok k → MeetsRow component.TheVariants.Constant given fed pairs k
-    constant-met (shape ∷ []) ((width ∷ []) ∷ []) read fed e =
+    pub constant-met : (inputs outputs : List Shape) → AreRead inputs → AreRead outputs → constant_at inputs outputs (last_value (codes "value") pairs) ≡ Ok k → MeetsRow component.TheVariants.Constant inputs outputs pairs k
+    constant-met (shape ∷ []) ((width ∷ []) ∷ []) read_in read_out e =
         let found = constant_found shape width (last_value (codes "value") pairs) e in
-        let narrow = All-head (λ w. w ≤ 64) width [] (All-head IsShape (width ∷ []) [] fed.each).narrow in
+        let narrow = All-head (λ w. w ≤ 64) width [] (All-head IsShape (width ∷ []) [] read_out.each).narrow in
         becomes component.TheVariants.Constant (shape ∷ []) ((width ∷ []) ∷ []) pairs (kind.TheVariants.Constant shape width found.0) k found.2
-        (record { is = refl; ok = (All-head IsShape shape [] read.each, narrow); ports = (refl, refl); says = found.1 })
-    constant-met given feds read fed e = refused BadPorts k e
+        (record { is = refl; ok = (All-head IsShape shape [] read_in.each, narrow); ports = (refl, refl); says = found.1 })
+    constant-met inputs outputs read_in read_out e = refused BadPorts k e
 
-    pub init-met : (given fed : List Shape) → init_at given fed (last_value (codes "value") pairs) (last_value (codes "ooo") pairs) ≡ Ok k → MeetsRow component.TheVariants.Init given fed pairs k
+    pub init-met : (inputs outputs : List Shape) → init_at inputs outputs (last_value (codes "value") pairs) (last_value (codes "ooo") pairs) ≡ Ok k → MeetsRow component.TheVariants.Init inputs outputs pairs k
     init-met (shape ∷ []) (out ∷ []) e =
         let start = last_value (codes "value") pairs in
         let ooo = last_value (codes "ooo") pairs in
@@ -171,10 +172,10 @@ module _ (k : Kind) where
           ports = (ap (λ (s : Shape). s ∷ []) (same_shape shape (field 1) tests.0), same_shapes (field 1) (out ∷ []) tests.1);
           says = (start_says start found.0 found.2, mark_says ooo found.1 found.4);
         })
-    init-met given fed e = refused BadPorts k e
+    init-met inputs outputs e = refused BadPorts k e
 
-    pub tagger-met : (given fed : List Shape) → AreRead given → AreRead fed → tagger_at given fed (last_value (codes "tags") pairs) ≡ Ok k → MeetsRow component.TheVariants.Tagger given fed pairs k
-    tagger-met (shape ∷ back ∷ []) ((width ∷ fields) ∷ out ∷ []) read fed e =
+    pub tagger-met : (inputs outputs : List Shape) → AreRead inputs → AreRead outputs → tagger_at inputs outputs (last_value (codes "tags") pairs) ≡ Ok k → MeetsRow component.TheVariants.Tagger inputs outputs pairs k
+    tagger-met (shape ∷ back ∷ []) ((width ∷ fields) ∷ out ∷ []) read_in read_out e =
         let ports = then_read (all_are shape (fields ∷ out ∷ []) && bytes_eq back (width ∷ fields)) (tagger_of shape width (last_value (codes "tags") pairs)) k BadPorts e in
         let tests = and_parts (all_are shape (fields ∷ out ∷ [])) (bytes_eq back (width ∷ fields)) ports.0 in
         let shapes = and_parts (bytes_eq fields shape) (all_are shape (out ∷ [])) tests.0 in
@@ -184,31 +185,31 @@ module _ (k : Kind) where
         becomes component.TheVariants.Tagger (shape ∷ back ∷ []) ((width ∷ fields) ∷ out ∷ []) pairs (kind.TheVariants.Tagger shape found.0) k found.3
         (record {
           is = refl;
-          ok = (All-head IsShape shape (back ∷ []) read.each, subst IsShape whole (All-head IsShape (width ∷ fields) (out ∷ []) fed.each), few.0, few.1);
+          ok = (All-head IsShape shape (back ∷ []) read_in.each, subst IsShape whole (All-head IsShape (width ∷ fields) (out ∷ []) read_out.each), few.0, few.1);
           ports = (
             ap (λ (s : Shape). shape ∷ s ∷ []) (same_shape back (width ∷ fields) tests.1 ∙ whole),
             λ i. whole i ∷ same_shapes shape (out ∷ []) shapes.1 i,
           );
           says = found.1;
         })
-    tagger-met given feds read fed e = refused BadPorts k e
+    tagger-met inputs outputs read_in read_out e = refused BadPorts k e
 
 -- a kind that is read meets its row
-pub row_met : WidthsAreTested → (component : Component) (given fed : List Shape) (pairs : List Pair) (k : Kind) → AreRead given → AreRead fed →
-    row_reading component given fed pairs ≡ Ok k → MeetsRow component given fed pairs k
-row_met tested component.TheVariants.Entry given fed pairs k ins outs e = entry-met pairs k given fed outs e
-row_met tested component.TheVariants.Exit given fed pairs k ins outs e = exit-met pairs k given fed ins e
-row_met tested component.TheVariants.Buffer given fed pairs k ins outs e = buffer-met pairs k given fed ins e
-row_met tested component.TheVariants.Fork given fed pairs k ins outs e = fork-met pairs k given fed ins outs e
-row_met tested component.TheVariants.Join given fed pairs k ins outs e = join-met pairs k given fed ins outs e
-row_met tested component.TheVariants.Split given fed pairs k ins outs e = split-met pairs k given fed ins outs e
-row_met tested component.TheVariants.Operator given fed pairs k ins outs e = operator-met k pairs tested given fed e
-row_met tested component.TheVariants.Constant given fed pairs k ins outs e = constant-met k pairs given fed ins outs e
-row_met tested component.TheVariants.Source given fed pairs k ins outs e = source-met pairs k given fed outs e
-row_met tested component.TheVariants.Sink given fed pairs k ins outs e = sink-met pairs k given fed ins e
-row_met tested component.TheVariants.Mux given fed pairs k ins outs e = mux-met pairs k given fed outs e
-row_met tested component.TheVariants.Branch given fed pairs k ins outs e = branch-met pairs k given fed ins e
-row_met tested component.TheVariants.Merge given fed pairs k ins outs e = merge-met pairs k given fed ins outs e
-row_met tested component.TheVariants.CtrlMerge given fed pairs k ins outs e = ctrl_merge-met pairs k given fed ins outs e
-row_met tested component.TheVariants.Init given fed pairs k ins outs e = init-met k pairs given fed e
-row_met tested component.TheVariants.Tagger given fed pairs k ins outs e = tagger-met k pairs given fed ins outs e
+pub row_met : WidthsAreTested → (component : Component) (inputs outputs : List Shape) (pairs : List Pair) (k : Kind) → AreRead inputs → AreRead outputs →
+    row_reading component inputs outputs pairs ≡ Ok k → MeetsRow component inputs outputs pairs k
+row_met tested component.TheVariants.Entry inputs outputs pairs k read_in read_out e = entry-met pairs k inputs outputs read_out e
+row_met tested component.TheVariants.Exit inputs outputs pairs k read_in read_out e = exit-met pairs k inputs outputs read_in e
+row_met tested component.TheVariants.Buffer inputs outputs pairs k read_in read_out e = buffer-met pairs k inputs outputs read_in e
+row_met tested component.TheVariants.Fork inputs outputs pairs k read_in read_out e = fork-met pairs k inputs outputs read_in read_out e
+row_met tested component.TheVariants.Join inputs outputs pairs k read_in read_out e = join-met pairs k inputs outputs read_in read_out e
+row_met tested component.TheVariants.Split inputs outputs pairs k read_in read_out e = split-met pairs k inputs outputs read_in read_out e
+row_met tested component.TheVariants.Operator inputs outputs pairs k read_in read_out e = operator-met k pairs tested inputs outputs e
+row_met tested component.TheVariants.Constant inputs outputs pairs k read_in read_out e = constant-met k pairs inputs outputs read_in read_out e
+row_met tested component.TheVariants.Source inputs outputs pairs k read_in read_out e = source-met pairs k inputs outputs read_out e
+row_met tested component.TheVariants.Sink inputs outputs pairs k read_in read_out e = sink-met pairs k inputs outputs read_in e
+row_met tested component.TheVariants.Mux inputs outputs pairs k read_in read_out e = mux-met pairs k inputs outputs read_out e
+row_met tested component.TheVariants.Branch inputs outputs pairs k read_in read_out e = branch-met pairs k inputs outputs read_in e
+row_met tested component.TheVariants.Merge inputs outputs pairs k read_in read_out e = merge-met pairs k inputs outputs read_in read_out e
+row_met tested component.TheVariants.CtrlMerge inputs outputs pairs k read_in read_out e = ctrl_merge-met pairs k inputs outputs read_in read_out e
+row_met tested component.TheVariants.Init inputs outputs pairs k read_in read_out e = init-met k pairs inputs outputs e
+row_met tested component.TheVariants.Tagger inputs outputs pairs k read_in read_out e = tagger-met k pairs inputs outputs read_in read_out e

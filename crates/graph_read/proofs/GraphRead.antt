@@ -8,7 +8,7 @@ use Rattle.graph_core.specs.NamedGraph.{NamedGraph}
 use Rattle.graph_read.specs.declared.fault.GraphRefusal.{GraphRefusal}
 use Rattle.graph_read.specs.GraphReading.{GraphReading, NodesReading, nodes_reading, edges_reading, first_open, graph_of_nodes, unless, closed, wired, graph_reading}
 use Rattle.graph_read.specs.GraphLaws.{ReadHasAllowedNames}
-use Rattle.graph_read.proofs.NodeRead.{same_answer, refused}
+use Rattle.graph_read.proofs.Answers.{same_answer, refused}
 use Rattle.graph_read.proofs.ReadNodes.{nodes_named}
 use Rattle.graph_read.proofs.ReadWires.{edges_keep_nodes}
 

@@ -1,6 +1,7 @@
 -- The wire of an edge, by index and by names.
 use Rattle.std.proofs.Common.{◌≡◌, Bool, true, false, ◌||◌, Option, Some, None, IsSome, Result, Ok, Err, refl, sym, ap, ◌∙◌, codes, if◌then◌else◌}
 use Rattle.std.specs.Prelude.{bytes_eq}
+use Rattle.std.proofs.lemmas.Option.{none-some}
 use Rattle.port_types.specs.declared.side.Side.{Side}
 use Rattle.port_types.specs.declared.side.Side.TheVariants.{Ins, Outs}
 use Rattle.graph_core.specs.declared.node.Node.{Node}
@@ -21,16 +22,13 @@ use Rattle.graph_read.specs.Attributes.{last_value}
 use Rattle.graph_read.specs.GraphReading.{NamedWire, port_there, wire_between, edge_between, edge_reading}
 use Rattle.graph_read.specs.GraphSteps.{IsFound, IsEnd, HasEnds}
 
-no_node : {A : Type 0} (x : A) → ◌≡◌ {A = Option A} None (Some x) → ⊥
-no_node x e = absurd (cc)
-
 -- a port with a shape is one of a live node
 pub node_shaped : (g : GraphValue) (side : Side) (p : PortAt) (shape : Shape) → shape_at g side p ≡ Some shape → IsSome (node_at g p.node)
 node_shaped g side p shape shaped = at (node_at g p.node) shaped
   where
     at : (o : Option Node) → shape_of o side p.port ≡ Some shape → IsSome o
     at (Some node) e = refl
-    at None e = absurd (no_node shape e)
+    at None e = absurd (none-some shape e)
 
 -- the fault of graph_core, as a fault of an edge
 abbrev pub kind_of : AddWire → GraphFaultKind

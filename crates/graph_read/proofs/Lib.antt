@@ -1,7 +1,7 @@
 mod Pairs
 mod Names
-mod Lookups
-mod KeptPairs
+mod Orders
+mod Answers
 mod RowsMet
 mod AttributeRowsMet
 mod RowsBack

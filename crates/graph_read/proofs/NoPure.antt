@@ -17,6 +17,7 @@ use Rattle.graph_read.specs.NodeReading.{NodeReading, word_reading, with_kept, b
 use Rattle.graph_read.specs.GraphReading.{NodesReading, refusal, names_of, then_read, nodes_reading, wired}
 use Rattle.graph_read.specs.GraphLaws.{ReadHasNoPure}
 use Rattle.graph_read.specs.Pure.{is_word, is_pure, has_pure}
+use Rattle.graph_read.proofs.Answers.{refused}
 
 no_kind : (pairs : List Pair) → word_reading (Some (codes "Pure")) pairs ≡ Err UnknownKind
 unfolding component_of
@@ -30,15 +31,12 @@ word_refused (Some word) pairs pure =
 body_refused : (statement : DocNode) → is_pure statement ≡ true → body_reading statement.pairs ≡ Err UnknownKind
 body_refused statement pure = ap (with_kept statement.pairs) (word_refused (last_value (codes "type") statement.pairs) statement.pairs pure)
 
-no_value : {A E : Type 0} (fault : E) (value : A) → ◌≡◌ {A = Result A E} (Err fault) (Ok value) → ⊥
-no_value fault value e = absurd (cc)
-
 -- what is wrong with the pairs of a node leaves it no body, whatever else is wrong with it
 no_body : (bad taken : Bool) (place : ℕ) (fault : GraphFaultKind) (body : Body) →
     ◌≡◌ {A = NodeReading} (if bad then Err BadName else (if taken then Err NameTaken else within_limit place (Err fault))) (Ok body) → ⊥
-no_body true taken place fault body e = no_value BadName body e
-no_body false true place fault body e = no_value NameTaken body e
-no_body false false place fault body e = no_value fault body e
+no_body true taken place fault body e = refused BadName body e
+no_body false true place fault body e = refused NameTaken body e
+no_body false false place fault body e = refused fault body e
 
 not_pure : (earlier : List Name) (place : ℕ) (statement : DocNode) (body : Body) → node_reading earlier place statement ≡ Ok body → is_pure statement ≡ false
 not_pure earlier place statement body read =
@@ -53,7 +51,7 @@ first_not_pure : (nodes : List (Name × Body)) (place : ℕ) (statement : DocNod
     (found : NodeReading) → node_reading (names_of nodes) place statement ≡ found →
     then_read place statement.name found (λ (body : Body). nodes_reading (nodes ++ (statement.name, body) ∷ []) (place + 1) statements) ≡ Ok all →
     list_any is_pure (statement ∷ statements) ≡ false
-first_not_pure nodes place statement statements all others (Err fault) is read = absurd (no_value (refusal fault place statement.name) all read)
+first_not_pure nodes place statement statements all others (Err fault) is read = refused (refusal fault place statement.name) all read
 first_not_pure nodes place statement statements all others (Ok body) is read =
     let first = not_pure (names_of nodes) place statement body is in
     let rest = others (nodes ++ (statement.name, body) ∷ []) read in
@@ -65,7 +63,7 @@ none_pure nodes place (statement ∷ statements) all read =
     first_not_pure nodes place statement statements all (λ more. none_pure more (place + 1) statements all) (node_reading (names_of nodes) place statement) refl read
 
 no_pure : (doc : Doc) (g : NamedGraph) (nodes : NodesReading) → nodes_reading [] 1 doc.nodes ≡ nodes → wired doc.edges nodes ≡ Ok g → has_pure doc ≡ false
-no_pure doc g (Err fault) is read = absurd (no_value fault g read)
+no_pure doc g (Err fault) is read = refused fault g read
 no_pure doc g (Ok nodes) is read = none_pure [] 1 doc.nodes nodes is
 
 pub read_has_no_pure : ReadHasNoPure

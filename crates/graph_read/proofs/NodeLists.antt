@@ -4,7 +4,8 @@ use Rattle.std.specs.Option.{option_map}
 use Rattle.std.specs.Ordering.{eq_by_cmp}
 use Rattle.std.specs.Cmp.{Equal-is}
 use Rattle.std.specs.FinMap as map_of
-use Rattle.std.proofs.lemmas.Bool.{false_from_ne_true}
+use Rattle.std.proofs.lemmas.Bool.{cases_Bool, cond-false}
+use Rattle.std.proofs.lemmas.Option.{none-some}
 use Rattle.std.proofs.lemmas.List.{map-append, drop_more, take_more}
 use Rattle.dot_text.specs.declared.doc.DocNode.{DocNode}
 use Rattle.graph_core.specs.declared.node.Node.{Node}
@@ -15,7 +16,7 @@ use Rattle.graph_core.specs.GraphValue.{GraphValue, flat, named_graph, named, na
 use Rattle.graph_read.specs.NodeReading.{NodeReading, node_reading}
 use Rattle.graph_read.specs.GraphReading.{then_read, names_of, nodes_reading}
 use Rattle.graph_read.specs.GraphSteps.{StandInOrder, HasGained}
-use Rattle.graph_read.proofs.Lookups.{name_total, name_same, name_cases}
+use Rattle.graph_read.proofs.Orders.{name_total, name_same}
 
 -- The list of nodes
 
@@ -31,19 +32,14 @@ next_read nodes place statement statements body read =
 
 -- The names
 
-not_named : (name : Name) (body : Body) → ◌≡◌ {A = Option Body} None (Some body) → ⊥
-not_named name body e = absurd (cc)
-
 pub none_named : HasAllowedNames no_graph
-none_named name body found = absurd (not_named name body (sym (map_of.get-empty name_cmp name) ∙ found))
+none_named name body found = absurd (none-some body (sym (map_of.get-empty name_cmp name) ∙ found))
 
 named_more : (g : NamedGraph) (name : Name) (body : Body) → HasAllowedNames g → IsName name → HasAllowedNames (with_node g name body)
 named_more g name body names is_name q b found =
-    elim (name_cases q name) [
-      | inl same ↦ subst IsName (sym same) is_name
-      | inr other ↦
-          let test : eq_by_cmp name_cmp q name ≡ false = false_from_ne_true (eq_by_cmp name_cmp q name) (λ e. other (name_same q name ((Equal-is (name_cmp q name)).0 e))) in
-          names q b (sym (map_of.get-insert name_total g.nodes name body q ∙ ap (λ (t : Bool). cond t (Some body) (map_of.get g.nodes q)) test) ∙ found)
+    elim (cases_Bool (eq_by_cmp name_cmp q name)) [
+      | inl same ↦ subst IsName (sym (name_same q name ((Equal-is (name_cmp q name)).0 same))) is_name
+      | inr other ↦ names q b (sym (map_of.get-insert name_total g.nodes name body q ∙ cond-false (eq_by_cmp name_cmp q name) (Some body) (map_of.get g.nodes q) other) ∙ found)
     ]
 
 -- How many there are
@@ -95,12 +91,9 @@ module _ (old new : GraphValue) (statements : List DocNode) (i : ℕ) (statement
 
 -- Nodes that stand in order leave no gap
 
-no_value : {A : Type 0} (x : A) → ◌≡◌ {A = Option A} None (Some x) → ⊥
-no_value x e = absurd (cc)
-
 pub live_in_order : (slots : List (Option Node)) (statements : List DocNode) → StandInOrder slots statements → (i : ℕ) → i < length slots → IsSome (flat (slice_get slots i))
 live_in_order [] statements order i within = absurd (omega arith)
 live_in_order (slot ∷ slots) [] order i within = let none = ap (λ (names : List (Option Name)). length names) order in absurd (omega (arith, none))
 live_in_order (Some node ∷ slots) (statement ∷ statements) order zero within = refl
-live_in_order (None ∷ slots) (statement ∷ statements) order zero within = absurd (no_value statement.name (ap (λ (names : List (Option Name)). flat (slice_get names zero)) order))
+live_in_order (None ∷ slots) (statement ∷ statements) order zero within = absurd (none-some statement.name (ap (λ (names : List (Option Name)). flat (slice_get names zero)) order))
 live_in_order (slot ∷ slots) (statement ∷ statements) order (suc i) within = live_in_order slots statements (ap (λ (names : List (Option Name)). drop (suc zero) names) order) i (omega (arith, within))

@@ -17,22 +17,15 @@ use Rattle.dot_text.specs.declared.doc.DocNode.{DocNode}
 use Rattle.graph_core.specs.declared.kind.Kind.{Kind}
 use Rattle.graph_core.specs.Kind.{Shape, KindOk}
 use Rattle.graph_core.specs.Name.{Name}
-use Rattle.graph_core.specs.Node.{Body}
+use Rattle.graph_core.specs.Node.{Body, kept_of}
 use Rattle.graph_read.specs.declared.component.Component.{Component}
 use Rattle.graph_read.specs.declared.fault.GraphFaultKind.{GraphFaultKind}
 use Rattle.graph_read.specs.declared.fault.GraphFaultKind.TheVariants.{BadName, NameTaken, NoKind, UnknownKind, MemoryNode, MemoryPort, BadPorts, TooMany}
-use Rattle.graph_read.specs.Attributes.{Pair, last_value, kept_of}
+use Rattle.graph_read.specs.Attributes.{Pair, last_value}
 use Rattle.graph_read.specs.Rows.{Reading, component_of}
 use Rattle.graph_read.specs.NodeReading.{NodeReading, is_memory, is_name, shapes_in, text_reading, side_reading, ports_reading, component_reading, named_reading, word_reading, kind_reading, with_kept, body_reading, within_limit, node_reading}
 use Rattle.graph_read.specs.Laws.{AreRead, RowsAreMet}
-
--- Answers
-
-pub same_answer : {A E : Type 0} (x y : A) → ◌≡◌ {A = Result A E} (Ok x) (Ok y) → x ≡ y
-same_answer x y e = cc
-
-pub refused : {A E P : Type 0} (fault : E) (x : A) → ◌≡◌ {A = Result A E} (Err fault) (Ok x) → P
-refused fault x e = absurd (cc)
+use Rattle.graph_read.proofs.Answers.{same_answer, refused}
 
 -- what is read behind a test that refuses passed the test
 pub past : {A E : Type 0} (test : Bool) (fault : E) (read : Result A E) (x : A) → cond test (Err fault) read ≡ Ok x → (test ≡ false) × (read ≡ Ok x)
@@ -84,11 +77,11 @@ module _ (says_ports : ReadsPorts) (rows : RowsAreMet) where
   side_read side (Some text) shapes e = shapes_read side text (reading side text) shapes refl e
 
   module _ (pairs : List Pair) (kind : Kind) where
-    ports_ok : (component : Component) (given fed : Result (List Shape) GraphFaultKind) → ((shapes : List Shape) → given ≡ Ok shapes → AreRead shapes) →
-        ((shapes : List Shape) → fed ≡ Ok shapes → AreRead shapes) → ports_reading component given fed pairs ≡ Ok kind → KindOk kind
-    ports_ok component (Err fault) fed p q e = refused fault kind e
-    ports_ok component (Ok given) (Err fault) p q e = refused fault kind e
-    ports_ok component (Ok given) (Ok fed) p q e = ((rows component given fed pairs kind (p given refl) (q fed refl)).0 e).ok
+    ports_ok : (component : Component) (inputs outputs : Result (List Shape) GraphFaultKind) → ((shapes : List Shape) → inputs ≡ Ok shapes → AreRead shapes) →
+        ((shapes : List Shape) → outputs ≡ Ok shapes → AreRead shapes) → ports_reading component inputs outputs pairs ≡ Ok kind → KindOk kind
+    ports_ok component (Err fault) outputs p q e = refused fault kind e
+    ports_ok component (Ok inputs) (Err fault) p q e = refused fault kind e
+    ports_ok component (Ok inputs) (Ok outputs) p q e = ((rows component inputs outputs pairs kind (p inputs refl) (q outputs refl)).0 e).ok
 
     component_ok : (component : Component) → component_reading component pairs ≡ Ok kind → KindOk kind
     component_ok component e =

@@ -10,14 +10,14 @@ use Rattle.dot_text.specs.declared.doc.DocNode.{DocNode}
 use Rattle.graph_core.specs.Name.{Name, name_cmp}
 use Rattle.graph_core.specs.Node.{Body}
 use Rattle.graph_read.specs.declared.fault.GraphFaultKind.TheVariants.{NameTaken, TooMany}
-use Rattle.graph_read.specs.declared.fault.NodeFault.{NodeFault}
-use Rattle.graph_read.specs.declared.fault.NodeFault.TheVariants.{Refused, NoMemory}
+use Rattle.graph_read.specs.declared.fault.StatementFault.{StatementFault}
+use Rattle.graph_read.specs.declared.fault.StatementFault.TheVariants.{Refused, NoMemory}
 use Rattle.graph_core.specs.GraphValue.{GraphValue}
 use Rattle.graph_read.specs.Answers.{IsNodeRead}
 use Rattle.graph_read.specs.GraphSteps.{IsAdded}
 use Rattle.graph_read.specs.NodeReading.{NodeReading, node_reading, body_reading, within_limit, is_name}
 use Rattle.graph_read.specs.GraphReading.{names_of}
-use Rattle.graph_read.proofs.Lookups.{name_total}
+use Rattle.graph_read.proofs.Orders.{name_total}
 
 either_found : {X : Type 0} (test : Bool) (x : X) (o : Option X) → (test || is_some o) ≡ is_some (cond test (Some x) o)
 either_found true x o = refl
@@ -46,7 +46,7 @@ pub is_no_key : (nodes : map.FinMap name_cmp Body) (name : Name) → ¬ (IsSome 
 is_no_key nodes name free = search rules
 
 -- what a body's reading refuses is refused of its node
-pub refused_reading : (name : Name) (fault : NodeFault) (place : ℕ) (g : GraphValue) {read body : NodeReading} → read ≡ body → IsNodeRead name body (Err fault) → IsAdded read name place g g (Err fault)
+pub refused_reading : (name : Name) (fault : StatementFault) (place : ℕ) (g : GraphValue) {read body : NodeReading} → read ≡ body → IsNodeRead name body (Err fault) → IsAdded read name place g g (Err fault)
 refused_reading name (Refused kind) place g is refused = is ∙ refused
 refused_reading name NoMemory place g is refused = tt
 

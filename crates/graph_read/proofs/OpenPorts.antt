@@ -2,6 +2,7 @@
 use Rattle.std.proofs.Common.{◌≡◌, ◌↔◌, inl, inr, ℕ, zero, suc, ◌+◌, ◌<◌, ◌≤◌, Bool, true, false, List, [], ◌∷◌, length, Option, Some, None, IsSome, is_some, slice_get, refl, sym, ap, ◌∙◌, arith, if◌then◌else◌}
 use Rattle.std.specs.Option.{option_or, option_map}
 use Rattle.std.proofs.lemmas.Bool.{cases_Bool, true≢false}
+use Rattle.std.proofs.lemmas.Option.{none-some, same_Some}
 use Rattle.port_types.specs.declared.side.Side.{Side}
 use Rattle.port_types.specs.declared.side.Side.TheVariants.{Ins, Outs}
 use Rattle.graph_core.specs.declared.node.Node.{Node}
@@ -70,17 +71,11 @@ nothing_open h place (node ∷ nodes) closed =
 abbrev pub opened : ℕ → Name → Side × ℕ → GraphRefusal
 opened place name port = record { kind = kind.PortOpen; place = place; name = name; port_open = Some port }
 
-none_got : {A : Type 0} (x : A) → ◌≡◌ {A = Option A} None (Some x) → ⊥
-none_got x e = absurd (cc)
-
-same_got : {A : Type 0} (x y : A) → ◌≡◌ {A = Option A} (Some x) (Some y) → x ≡ y
-same_got x y e = cc
-
 first_opened : (h : NamedGraph) (i place : ℕ) (nodes : List (Name × Body)) (node : Name × Body) (port : Side × ℕ) → slice_get nodes i ≡ Some node →
     ((j : ℕ) (other : Name × Body) → j < i → slice_get nodes j ≡ Some other → open_port h other ≡ None) → open_port h node ≡ Some port → first_open h place nodes ≡ Some (opened (place + i) node.0 port)
-first_opened h i place [] node port at closed found = absurd (none_got node at)
+first_opened h i place [] node port at closed found = absurd (none-some node at)
 first_opened h zero place (first ∷ nodes) node port at closed found =
-    let is : first ≡ node = same_got first node at in
+    let is : first ≡ node = same_Some first node at in
     let here : place + zero ≡ place = omega arith in
     ap (λ (o : Option (Side × ℕ)). option_or (open_refusal place first.0 o) (first_open h (place + 1) nodes)) (ap (open_port h) is ∙ found)
     ∙ (λ j. Some (opened (sym here j) (is j).0 port))
@@ -107,8 +102,8 @@ pub record GotNode (g : GraphValue) (i : ℕ) (entry : Name × Body) : Type 0 wh
   pub is : named node ≡ entry
 
 got_node : (g : GraphValue) (i : ℕ) (entry : Name × Body) (o : Option Node) → node_at g (id_of i) ≡ o → option_map named o ≡ Some entry → GotNode g i entry
-got_node g i entry None live got = absurd (none_got entry got)
-got_node g i entry (Some node) live got = record { node = node; live = live; is = same_got (named node) entry got }
+got_node g i entry None live got = absurd (none-some entry got)
+got_node g i entry (Some node) live got = record { node = node; live = live; is = same_Some (named node) entry got }
 
 -- The ports of live nodes
 
@@ -180,6 +175,6 @@ module _ (g : GraphValue) (live : AreLive g.slots) (free_is : (side : Side) (p :
 
 -- a live node stands in a slot
 pub slot_within : (slots : List (Option Node)) (i : ℕ) (node : Node) → flat (slice_get slots i) ≡ Some node → i < length slots
-slot_within [] i node live = absurd (none_got node live)
+slot_within [] i node live = absurd (none-some node live)
 slot_within (slot ∷ slots) zero node live = omega arith
 slot_within (slot ∷ slots) (suc i) node live = let rest = slot_within slots i node live in omega (arith, rest)

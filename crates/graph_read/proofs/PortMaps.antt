@@ -1,33 +1,18 @@
 -- The wires of a graph by names, found by their inputs and by their outputs.
-use Rattle.std.proofs.Common.{◌≡◌, ◌≢◌, ◌⊎◌, inl, inr, Bool, true, false, cond, ◌&&◌, ◌||◌, ◌==◌, T, List, [], ◌∷◌, Some, None, Ordering, Less, Equal, Greater, is_eq, nat_cmp, refl, sym, ap, ◌∙◌}
+use Rattle.std.proofs.Common.{◌≡◌, ◌≢◌, ◌⊎◌, inl, inr, Bool, true, false, cond, ◌&&◌, ◌||◌, ◌==◌, T, List, [], ◌∷◌, Some, None, Ordering, Less, Equal, Greater, is_eq, refl, sym, ap, ◌∙◌}
 use Rattle.std.specs.Prelude.{bytes_eq}
 use Rattle.std.specs.List.{list_any}
-use Rattle.std.specs.Ordering.{eq_by_cmp, ordering_then, is_lt}
-use Rattle.std.specs.Cmp.{IsTotalOrder, tied_itself, Equal-is, then_total, on_total, nat_cmp_total}
+use Rattle.std.specs.Ordering.{eq_by_cmp, is_lt}
+use Rattle.std.specs.Cmp.{tied_itself, Equal-is}
 use Rattle.std.specs.FinMap as map
-use Rattle.std.specs.FinMap.{IsAntisymmetric, nat_cmp-IsAntisymmetric}
 use Rattle.std.specs.FinMap.Entries.{below_all}
 use Rattle.std.proofs.lemmas.Bool.{cases_Bool, and_parts, and_from, or_right, eqb-true, eq-eqb, false_from_ne_true, true≢false}
 use Rattle.std.proofs.lemmas.Option.{none-some, same_Some}
 use Rattle.std.proofs.lemmas.Slice.Eq.{bytes_eq-Decides}
 use Rattle.port_types.specs.declared.side.Side.TheVariants.{Outs}
-use Rattle.graph_core.specs.Name.{Port, name_cmp, port_cmp}
+use Rattle.graph_core.specs.Name.{Port, port_cmp}
 use Rattle.graph_core.specs.NamedGraph.{NamedGraph, with_wire, is_wired}
-use Rattle.graph_read.proofs.Lookups.{name_total, name_same}
-
-pub port_total : IsTotalOrder port_cmp
-port_total = then_total (on_total (λ (p : Port). p.node) name_total) (on_total (λ (p : Port). p.port) nat_cmp_total)
-
--- two orders in turn tie where both do
-then_parts : (first second : Ordering) → ordering_then first second ≡ Equal → (first ≡ Equal) × (second ≡ Equal)
-then_parts Less second e = (e, absurd (cc e))
-then_parts Equal second e = (refl, e)
-then_parts Greater second e = (e, absurd (cc e))
-
-pub port_same : IsAntisymmetric port_cmp
-port_same p q e =
-    let ties = then_parts (name_cmp p.node q.node) (nat_cmp p.port q.port) e in
-    λ i. record { node = name_same p.node q.node ties.0 i; port = nat_cmp-IsAntisymmetric p.port q.port ties.1 i }
+use Rattle.graph_read.proofs.Orders.{port_total, port_same}
 
 -- Wires by their inputs
 

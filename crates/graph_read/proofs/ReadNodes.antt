@@ -19,9 +19,10 @@ use Rattle.graph_core.specs.Node.{Body}
 use Rattle.graph_read.specs.NodeReading.{NodeReading, node_reading}
 use Rattle.graph_read.specs.GraphReading.{refusal, then_read, names_of, nodes_reading}
 use Rattle.graph_read.specs.Laws.{RowsAreMet}
-use Rattle.graph_read.proofs.Lookups.{name_total, name_same}
+use Rattle.graph_read.proofs.Orders.{name_total, name_same}
 use Rattle.graph_read.proofs.Names.{name_to}
-use Rattle.graph_read.proofs.NodeRead.{same_answer, refused, IsRead, node_is_read, kind_is_ok}
+use Rattle.graph_read.proofs.Answers.{same_answer, refused}
+use Rattle.graph_read.proofs.NodeRead.{IsRead, node_is_read, kind_is_ok}
 
 -- Statement after statement
 

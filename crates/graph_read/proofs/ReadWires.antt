@@ -18,7 +18,7 @@ use Rattle.graph_read.specs.declared.fault.GraphFaultKind.{GraphFaultKind}
 use Rattle.graph_read.specs.declared.fault.GraphFaultKind.TheVariants.{UnknownNode, UnknownPort, PortTaken, ShapeDiffers}
 use Rattle.graph_read.specs.Attributes.{last_value}
 use Rattle.graph_read.specs.GraphReading.{NamedWire, refusal, then_read, named_in, port_there, wire_between, edge_between, edge_reading, edges_reading, graph_of_nodes}
-use Rattle.graph_read.proofs.NodeRead.{same_answer, refused}
+use Rattle.graph_read.proofs.Answers.{same_answer, refused}
 use Rattle.graph_read.proofs.PortMaps.{port_cases, fed_here, fed_elsewhere, wired_where_fed}
 
 -- The port that an edge names

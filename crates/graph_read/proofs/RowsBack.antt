@@ -12,11 +12,11 @@ use Rattle.op_table.specs.Laws.{NamesAreFound, WidthsAreTested}
 use Rattle.port_types.specs.Tag.{tag_width}
 use Rattle.graph_core.specs.declared.kind.Kind.{Kind}
 use Rattle.graph_core.specs.declared.kind.Kind.TheVariants.{Entry, Exit, Buffer, Fork, Join, Split, Operator, Constant, Source0, Sink0, Mux, Branch, Merge, CtrlMerge, Init, Tagger}
-use Rattle.graph_core.specs.Kind.{Shape, field, tagged, ins, outs}
+use Rattle.graph_core.specs.Kind.{Shape, KindOk, field, tagged}
 use Rattle.graph_read.specs.declared.component.Component.{Component}
 use Rattle.graph_read.specs.Attributes.{Pair, last_value, value_of, tags_of}
 use Rattle.graph_read.specs.Rows.{where_ports, entry_at, exit_at, all_are, are_fields, fork_at, merge_at, ctrl_merge_at, operator_named, operator_typed, operator_at, constant_of, constant_with, init_with, init_marked, start_of, mark_of, tagger_of, tagger_with, row_reading}
-use Rattle.graph_read.specs.Laws.{MeetsRow, component_at, RowsReadBack}
+use Rattle.graph_read.specs.Laws.{HasOwnPorts, MeetsRow, Says, component_at, RowsReadBack}
 
 -- ---- tests that hold
 
@@ -132,33 +132,32 @@ row_back found tested (Tagger shape tags) pairs ok says =
 
 -- what meets a row is read, also with the port more that an Entry or an Exit may have
 
-entry_also : (shape : Shape) (given fed : List Shape) → ((given ≡ []) ⊎ (given ≡ shape ∷ [])) × (fed ≡ shape ∷ []) → entry_at given fed ≡ Ok (Entry shape)
-entry_also shape given fed (inl none, is) = (λ i. entry_at (none i) (is i))
-entry_also shape given fed (inr some, is) = (λ i. entry_at (some i) (is i)) ∙ where_right (bytes_eq shape shape) (Entry shape) (same_test shape)
+entry_also : (shape : Shape) (inputs outputs : List Shape) → ((inputs ≡ []) ⊎ (inputs ≡ shape ∷ [])) × (outputs ≡ shape ∷ []) → entry_at inputs outputs ≡ Ok (Entry shape)
+entry_also shape inputs outputs (inl none, is) = (λ i. entry_at (none i) (is i))
+entry_also shape inputs outputs (inr some, is) = (λ i. entry_at (some i) (is i)) ∙ where_right (bytes_eq shape shape) (Entry shape) (same_test shape)
 
-exit_also : (shape : Shape) (given fed : List Shape) → (given ≡ shape ∷ []) × ((fed ≡ []) ⊎ (fed ≡ shape ∷ [])) → exit_at given fed ≡ Ok (Exit shape)
-exit_also shape given fed (is, inl none) = (λ i. exit_at (is i) (none i))
-exit_also shape given fed (is, inr some) = (λ i. exit_at (is i) (some i)) ∙ where_right (bytes_eq shape shape) (Exit shape) (same_test shape)
+exit_also : (shape : Shape) (inputs outputs : List Shape) → (inputs ≡ shape ∷ []) × ((outputs ≡ []) ⊎ (outputs ≡ shape ∷ [])) → exit_at inputs outputs ≡ Ok (Exit shape)
+exit_also shape inputs outputs (is, inl none) = (λ i. exit_at (is i) (none i))
+exit_also shape inputs outputs (is, inr some) = (λ i. exit_at (is i) (some i)) ∙ where_right (bytes_eq shape shape) (Exit shape) (same_test shape)
 
-at_ports : (component other : Component) (given fed ins outs : List Shape) (pairs : List Pair) → component ≡ other → given ≡ ins → fed ≡ outs →
-    row_reading component given fed pairs ≡ row_reading other ins outs pairs
-at_ports component other given fed ins outs pairs is ports_in ports_out = λ i. row_reading (is i) (ports_in i) (ports_out i) pairs
+module _ (found : NamesAreFound) (tested : WidthsAreTested) (component : Component) (inputs outputs : List Shape) (pairs : List Pair) where
+  row_at : (k : Kind) → component ≡ component_at k → HasOwnPorts k inputs outputs → KindOk k → Says k pairs → row_reading component inputs outputs pairs ≡ Ok k
+  row_at k is ports ok says = (λ i. row_reading (is i) (ports.0 i) (ports.1 i) pairs) ∙ row_back found tested k pairs ok says
 
-module _ (found : NamesAreFound) (tested : WidthsAreTested) (component : Component) (given fed : List Shape) (pairs : List Pair) where
-  pub row_meets : (k : Kind) → MeetsRow component given fed pairs k → row_reading component given fed pairs ≡ Ok k
-  row_meets (Entry shape) meets = at_ports component (component_at (Entry shape)) given fed given fed pairs meets.is refl refl ∙ entry_also shape given fed meets.ports
-  row_meets (Exit shape) meets = at_ports component (component_at (Exit shape)) given fed given fed pairs meets.is refl refl ∙ exit_also shape given fed meets.ports
-  row_meets (Buffer shape) meets = at_ports component (component_at (Buffer shape)) given fed (ins (Buffer shape)) (outs (Buffer shape)) pairs meets.is meets.ports.0 meets.ports.1 ∙ row_back found tested (Buffer shape) pairs meets.ok meets.says
-  row_meets (Fork shape count) meets = at_ports component (component_at (Fork shape count)) given fed (ins (Fork shape count)) (outs (Fork shape count)) pairs meets.is meets.ports.0 meets.ports.1 ∙ row_back found tested (Fork shape count) pairs meets.ok meets.says
-  row_meets (Join shapes) meets = at_ports component (component_at (Join shapes)) given fed (ins (Join shapes)) (outs (Join shapes)) pairs meets.is meets.ports.0 meets.ports.1 ∙ row_back found tested (Join shapes) pairs meets.ok meets.says
-  row_meets (Split shapes) meets = at_ports component (component_at (Split shapes)) given fed (ins (Split shapes)) (outs (Split shapes)) pairs meets.is meets.ports.0 meets.ports.1 ∙ row_back found tested (Split shapes) pairs meets.ok meets.says
-  row_meets (Operator op widths width) meets = at_ports component (component_at (Operator op widths width)) given fed (ins (Operator op widths width)) (outs (Operator op widths width)) pairs meets.is meets.ports.0 meets.ports.1 ∙ row_back found tested (Operator op widths width) pairs meets.ok meets.says
-  row_meets (Constant shape width value) meets = at_ports component (component_at (Constant shape width value)) given fed (ins (Constant shape width value)) (outs (Constant shape width value)) pairs meets.is meets.ports.0 meets.ports.1 ∙ row_back found tested (Constant shape width value) pairs meets.ok meets.says
-  row_meets (Source0 shape) meets = at_ports component (component_at (Source0 shape)) given fed (ins (Source0 shape)) (outs (Source0 shape)) pairs meets.is meets.ports.0 meets.ports.1 ∙ row_back found tested (Source0 shape) pairs meets.ok meets.says
-  row_meets (Sink0 shape) meets = at_ports component (component_at (Sink0 shape)) given fed (ins (Sink0 shape)) (outs (Sink0 shape)) pairs meets.is meets.ports.0 meets.ports.1 ∙ row_back found tested (Sink0 shape) pairs meets.ok meets.says
-  row_meets (Mux shape) meets = at_ports component (component_at (Mux shape)) given fed (ins (Mux shape)) (outs (Mux shape)) pairs meets.is meets.ports.0 meets.ports.1 ∙ row_back found tested (Mux shape) pairs meets.ok meets.says
-  row_meets (Branch shape) meets = at_ports component (component_at (Branch shape)) given fed (ins (Branch shape)) (outs (Branch shape)) pairs meets.is meets.ports.0 meets.ports.1 ∙ row_back found tested (Branch shape) pairs meets.ok meets.says
-  row_meets (Merge shape count) meets = at_ports component (component_at (Merge shape count)) given fed (ins (Merge shape count)) (outs (Merge shape count)) pairs meets.is meets.ports.0 meets.ports.1 ∙ row_back found tested (Merge shape count) pairs meets.ok meets.says
-  row_meets (CtrlMerge shape count width) meets = at_ports component (component_at (CtrlMerge shape count width)) given fed (ins (CtrlMerge shape count width)) (outs (CtrlMerge shape count width)) pairs meets.is meets.ports.0 meets.ports.1 ∙ row_back found tested (CtrlMerge shape count width) pairs meets.ok meets.says
-  row_meets (Init value mark) meets = at_ports component (component_at (Init value mark)) given fed (ins (Init value mark)) (outs (Init value mark)) pairs meets.is meets.ports.0 meets.ports.1 ∙ row_back found tested (Init value mark) pairs meets.ok meets.says
-  row_meets (Tagger shape tags) meets = at_ports component (component_at (Tagger shape tags)) given fed (ins (Tagger shape tags)) (outs (Tagger shape tags)) pairs meets.is meets.ports.0 meets.ports.1 ∙ row_back found tested (Tagger shape tags) pairs meets.ok meets.says
+  pub row_meets : (k : Kind) → MeetsRow component inputs outputs pairs k → row_reading component inputs outputs pairs ≡ Ok k
+  row_meets (Entry shape) meets = ap (λ (c : Component). row_reading c inputs outputs pairs) meets.is ∙ entry_also shape inputs outputs meets.ports
+  row_meets (Exit shape) meets = ap (λ (c : Component). row_reading c inputs outputs pairs) meets.is ∙ exit_also shape inputs outputs meets.ports
+  row_meets (Buffer shape) meets = row_at (Buffer shape) meets.is meets.ports meets.ok meets.says
+  row_meets (Fork shape count) meets = row_at (Fork shape count) meets.is meets.ports meets.ok meets.says
+  row_meets (Join shapes) meets = row_at (Join shapes) meets.is meets.ports meets.ok meets.says
+  row_meets (Split shapes) meets = row_at (Split shapes) meets.is meets.ports meets.ok meets.says
+  row_meets (Operator op widths width) meets = row_at (Operator op widths width) meets.is meets.ports meets.ok meets.says
+  row_meets (Constant shape width value) meets = row_at (Constant shape width value) meets.is meets.ports meets.ok meets.says
+  row_meets (Source0 shape) meets = row_at (Source0 shape) meets.is meets.ports meets.ok meets.says
+  row_meets (Sink0 shape) meets = row_at (Sink0 shape) meets.is meets.ports meets.ok meets.says
+  row_meets (Mux shape) meets = row_at (Mux shape) meets.is meets.ports meets.ok meets.says
+  row_meets (Branch shape) meets = row_at (Branch shape) meets.is meets.ports meets.ok meets.says
+  row_meets (Merge shape count) meets = row_at (Merge shape count) meets.is meets.ports meets.ok meets.says
+  row_meets (CtrlMerge shape count width) meets = row_at (CtrlMerge shape count width) meets.is meets.ports meets.ok meets.says
+  row_meets (Init value mark) meets = row_at (Init value mark) meets.is meets.ports meets.ok meets.says
+  row_meets (Tagger shape tags) meets = row_at (Tagger shape tags) meets.is meets.ports meets.ok meets.says

@@ -16,17 +16,12 @@ use Rattle.graph_read.specs.declared.fault.GraphFaultKind.TheVariants.{BadPorts}
 use Rattle.graph_read.specs.Attributes.{Pair}
 use Rattle.graph_read.specs.Rows.{Reading, where_ports, all_are, entry_at, exit_at, buffer_at, fork_at, join_at, split_at, source_at, sink_at, mux_at, branch_at, merge_at, ctrl_merge_at}
 use Rattle.graph_read.specs.Laws.{MeetsRow, AreRead}
+use Rattle.graph_read.proofs.Answers.{same_answer, refused}
 
 -- ---- answers
 
-pub same_kind : (found kind : Kind) → ◌≡◌ {A = Reading} (Ok found) (Ok kind) → found ≡ kind
-same_kind found kind e = cc
-
-pub refused : {P : Type 0} (fault : GraphFaultKind) (kind : Kind) → ◌≡◌ {A = Reading} (Err fault) (Ok kind) → P
-refused fault kind e = absurd (cc)
-
 where_are : (are : Bool) (found kind : Kind) → where_ports are found ≡ Ok kind → (are ≡ true) × (found ≡ kind)
-where_are true found kind e = (refl, same_kind found kind e)
+where_are true found kind e = (refl, same_answer found kind e)
 where_are false found kind e = refused BadPorts kind e
 
 pub same_shape : (a b : Shape) → bytes_eq a b ≡ true → a ≡ b
@@ -40,80 +35,80 @@ same_shapes shape (other ∷ shapes) test =
     λ i. same_shape other shape parts.0 i ∷ same_shapes shape shapes parts.1 i
 
 -- the kind that was found is this one
-pub becomes : (component : Component) (given fed : List Shape) (pairs : List Pair) (found kind : Kind) → found ≡ kind → MeetsRow component given fed pairs found → MeetsRow component given fed pairs kind
-becomes component given fed pairs found kind same meets = subst (λ (k : Kind). MeetsRow component given fed pairs k) same meets
+pub becomes : (component : Component) (inputs outputs : List Shape) (pairs : List Pair) (found kind : Kind) → found ≡ kind → MeetsRow component inputs outputs pairs found → MeetsRow component inputs outputs pairs kind
+becomes component inputs outputs pairs found kind same meets = subst (λ (k : Kind). MeetsRow component inputs outputs pairs k) same meets
 
 -- ---- the rows without attributes
 
 module _ (pairs : List Pair) (k : Kind) where
-  pub entry-met : (given fed : List Shape) → AreRead fed → entry_at given fed ≡ Ok k → MeetsRow component.TheVariants.Entry given fed pairs k
+  pub entry-met : (inputs outputs : List Shape) → AreRead outputs → entry_at inputs outputs ≡ Ok k → MeetsRow component.TheVariants.Entry inputs outputs pairs k
   entry-met [] (shape ∷ []) read e =
-      becomes component.TheVariants.Entry [] (shape ∷ []) pairs (kind.TheVariants.Entry shape) k (same_kind (kind.TheVariants.Entry shape) k e)
+      becomes component.TheVariants.Entry [] (shape ∷ []) pairs (kind.TheVariants.Entry shape) k (same_answer (kind.TheVariants.Entry shape) k e)
       (record { is = refl; ok = All-head IsShape shape [] read.each; ports = (inl refl, refl); says = tt })
   entry-met (also ∷ []) (shape ∷ []) read e =
       let found = where_are (bytes_eq also shape) (kind.TheVariants.Entry shape) k e in
       becomes component.TheVariants.Entry (also ∷ []) (shape ∷ []) pairs (kind.TheVariants.Entry shape) k found.1
       (record { is = refl; ok = All-head IsShape shape [] read.each; ports = (inr (ap (λ (s : Shape). s ∷ []) (same_shape also shape found.0)), refl); says = tt })
-  entry-met given fed read e = refused BadPorts k e
+  entry-met inputs outputs read e = refused BadPorts k e
 
-  pub exit-met : (given fed : List Shape) → AreRead given → exit_at given fed ≡ Ok k → MeetsRow component.TheVariants.Exit given fed pairs k
+  pub exit-met : (inputs outputs : List Shape) → AreRead inputs → exit_at inputs outputs ≡ Ok k → MeetsRow component.TheVariants.Exit inputs outputs pairs k
   exit-met (shape ∷ []) [] read e =
-      becomes component.TheVariants.Exit (shape ∷ []) [] pairs (kind.TheVariants.Exit shape) k (same_kind (kind.TheVariants.Exit shape) k e)
+      becomes component.TheVariants.Exit (shape ∷ []) [] pairs (kind.TheVariants.Exit shape) k (same_answer (kind.TheVariants.Exit shape) k e)
       (record { is = refl; ok = All-head IsShape shape [] read.each; ports = (refl, inl refl); says = tt })
   exit-met (shape ∷ []) (also ∷ []) read e =
       let found = where_are (bytes_eq also shape) (kind.TheVariants.Exit shape) k e in
       becomes component.TheVariants.Exit (shape ∷ []) (also ∷ []) pairs (kind.TheVariants.Exit shape) k found.1
       (record { is = refl; ok = All-head IsShape shape [] read.each; ports = (refl, inr (ap (λ (s : Shape). s ∷ []) (same_shape also shape found.0))); says = tt })
-  exit-met given fed read e = refused BadPorts k e
+  exit-met inputs outputs read e = refused BadPorts k e
 
-  pub buffer-met : (given fed : List Shape) → AreRead given → buffer_at given fed ≡ Ok k → MeetsRow component.TheVariants.Buffer given fed pairs k
+  pub buffer-met : (inputs outputs : List Shape) → AreRead inputs → buffer_at inputs outputs ≡ Ok k → MeetsRow component.TheVariants.Buffer inputs outputs pairs k
   buffer-met (shape ∷ []) (out ∷ []) read e =
       let found = where_are (bytes_eq out shape) (kind.TheVariants.Buffer shape) k e in
       becomes component.TheVariants.Buffer (shape ∷ []) (out ∷ []) pairs (kind.TheVariants.Buffer shape) k found.1
       (record { is = refl; ok = All-head IsShape shape [] read.each; ports = (refl, ap (λ (s : Shape). s ∷ []) (same_shape out shape found.0)); says = tt })
-  buffer-met given fed read e = refused BadPorts k e
+  buffer-met inputs outputs read e = refused BadPorts k e
 
-  pub fork-met : (given fed : List Shape) → AreRead given → AreRead fed → fork_at given fed ≡ Ok k → MeetsRow component.TheVariants.Fork given fed pairs k
-  fork-met (shape ∷ []) (out ∷ outs) read fed e =
+  pub fork-met : (inputs outputs : List Shape) → AreRead inputs → AreRead outputs → fork_at inputs outputs ≡ Ok k → MeetsRow component.TheVariants.Fork inputs outputs pairs k
+  fork-met (shape ∷ []) (out ∷ outs) read_in read_out e =
       let fork = kind.TheVariants.Fork shape (length (out ∷ outs)) in
       let found = where_are (all_are shape (out ∷ outs)) fork k e in
       becomes component.TheVariants.Fork (shape ∷ []) (out ∷ outs) pairs fork k found.1
-      (record { is = refl; ok = (All-head IsShape shape [] read.each, (omega arith, fed.few)); ports = (refl, same_shapes shape (out ∷ outs) found.0); says = tt })
-  fork-met given feds read fed e = refused BadPorts k e
+      (record { is = refl; ok = (All-head IsShape shape [] read_in.each, (omega arith, read_out.few)); ports = (refl, same_shapes shape (out ∷ outs) found.0); says = tt })
+  fork-met inputs outputs read_in read_out e = refused BadPorts k e
 
-  pub join-met : (given fed : List Shape) → AreRead given → AreRead fed → join_at given fed ≡ Ok k → MeetsRow component.TheVariants.Join given fed pairs k
-  join-met (shape ∷ shapes) (whole ∷ []) read fed e =
+  pub join-met : (inputs outputs : List Shape) → AreRead inputs → AreRead outputs → join_at inputs outputs ≡ Ok k → MeetsRow component.TheVariants.Join inputs outputs pairs k
+  join-met (shape ∷ shapes) (whole ∷ []) read_in read_out e =
       let join = kind.TheVariants.Join (shape ∷ shapes) in
       let found = where_are (bytes_eq whole (concat (shape ∷ shapes))) join k e in
       let same = same_shape whole (concat (shape ∷ shapes)) found.0 in
-      let parts : AreParts (shape ∷ shapes) = record { count = (omega arith, read.few); parts = read.each; whole = subst IsShape same (All-head IsShape whole [] fed.each) } in
+      let parts : AreParts (shape ∷ shapes) = record { count = (omega arith, read_in.few); parts = read_in.each; whole = subst IsShape same (All-head IsShape whole [] read_out.each) } in
       becomes component.TheVariants.Join (shape ∷ shapes) (whole ∷ []) pairs join k found.1
       (record { is = refl; ok = parts; ports = (refl, ap (λ (s : Shape). s ∷ []) same); says = tt })
-  join-met given feds read fed e = refused BadPorts k e
+  join-met inputs outputs read_in read_out e = refused BadPorts k e
 
-  pub split-met : (given fed : List Shape) → AreRead given → AreRead fed → split_at given fed ≡ Ok k → MeetsRow component.TheVariants.Split given fed pairs k
-  split-met (whole ∷ []) (shape ∷ shapes) read fed e =
+  pub split-met : (inputs outputs : List Shape) → AreRead inputs → AreRead outputs → split_at inputs outputs ≡ Ok k → MeetsRow component.TheVariants.Split inputs outputs pairs k
+  split-met (whole ∷ []) (shape ∷ shapes) read_in read_out e =
       let split = kind.TheVariants.Split (shape ∷ shapes) in
       let found = where_are (bytes_eq whole (concat (shape ∷ shapes))) split k e in
       let same = same_shape whole (concat (shape ∷ shapes)) found.0 in
-      let parts : AreParts (shape ∷ shapes) = record { count = (omega arith, fed.few); parts = fed.each; whole = subst IsShape same (All-head IsShape whole [] read.each) } in
+      let parts : AreParts (shape ∷ shapes) = record { count = (omega arith, read_out.few); parts = read_out.each; whole = subst IsShape same (All-head IsShape whole [] read_in.each) } in
       becomes component.TheVariants.Split (whole ∷ []) (shape ∷ shapes) pairs split k found.1
       (record { is = refl; ok = parts; ports = (ap (λ (s : Shape). s ∷ []) same, refl); says = tt })
-  split-met given feds read fed e = refused BadPorts k e
+  split-met inputs outputs read_in read_out e = refused BadPorts k e
 
-  pub source-met : (given fed : List Shape) → AreRead fed → source_at given fed ≡ Ok k → MeetsRow component.TheVariants.Source given fed pairs k
+  pub source-met : (inputs outputs : List Shape) → AreRead outputs → source_at inputs outputs ≡ Ok k → MeetsRow component.TheVariants.Source inputs outputs pairs k
   source-met [] (shape ∷ []) read e =
-      becomes component.TheVariants.Source [] (shape ∷ []) pairs (kind.TheVariants.Source0 shape) k (same_kind (kind.TheVariants.Source0 shape) k e)
+      becomes component.TheVariants.Source [] (shape ∷ []) pairs (kind.TheVariants.Source0 shape) k (same_answer (kind.TheVariants.Source0 shape) k e)
       (record { is = refl; ok = All-head IsShape shape [] read.each; ports = (refl, refl); says = tt })
-  source-met given fed read e = refused BadPorts k e
+  source-met inputs outputs read e = refused BadPorts k e
 
-  pub sink-met : (given fed : List Shape) → AreRead given → sink_at given fed ≡ Ok k → MeetsRow component.TheVariants.Sink given fed pairs k
+  pub sink-met : (inputs outputs : List Shape) → AreRead inputs → sink_at inputs outputs ≡ Ok k → MeetsRow component.TheVariants.Sink inputs outputs pairs k
   sink-met (shape ∷ []) [] read e =
-      becomes component.TheVariants.Sink (shape ∷ []) [] pairs (kind.TheVariants.Sink0 shape) k (same_kind (kind.TheVariants.Sink0 shape) k e)
+      becomes component.TheVariants.Sink (shape ∷ []) [] pairs (kind.TheVariants.Sink0 shape) k (same_answer (kind.TheVariants.Sink0 shape) k e)
       (record { is = refl; ok = All-head IsShape shape [] read.each; ports = (refl, refl); says = tt })
-  sink-met given fed read e = refused BadPorts k e
+  sink-met inputs outputs read e = refused BadPorts k e
 
-  pub mux-met : (given fed : List Shape) → AreRead fed → mux_at given fed ≡ Ok k → MeetsRow component.TheVariants.Mux given fed pairs k
+  pub mux-met : (inputs outputs : List Shape) → AreRead outputs → mux_at inputs outputs ≡ Ok k → MeetsRow component.TheVariants.Mux inputs outputs pairs k
   mux-met (select ∷ first ∷ second ∷ []) (out ∷ []) read e =
       let found = where_are (bytes_eq select (field 1) && all_are out (first ∷ second ∷ [])) (kind.TheVariants.Mux out) k e in
       let tests = and_parts (bytes_eq select (field 1)) (all_are out (first ∷ second ∷ [])) found.0 in
@@ -124,9 +119,9 @@ module _ (pairs : List Pair) (k : Kind) where
         ports = (λ i. same_shape select (field 1) tests.0 i ∷ same_shapes out (first ∷ second ∷ []) tests.1 i, refl);
         says = tt;
       })
-  mux-met given fed read e = refused BadPorts k e
+  mux-met inputs outputs read e = refused BadPorts k e
 
-  pub branch-met : (given fed : List Shape) → AreRead given → branch_at given fed ≡ Ok k → MeetsRow component.TheVariants.Branch given fed pairs k
+  pub branch-met : (inputs outputs : List Shape) → AreRead inputs → branch_at inputs outputs ≡ Ok k → MeetsRow component.TheVariants.Branch inputs outputs pairs k
   branch-met (shape ∷ condition ∷ []) (first ∷ second ∷ []) read e =
       let found = where_are (bytes_eq condition (field 1) && all_are shape (first ∷ second ∷ [])) (kind.TheVariants.Branch shape) k e in
       let tests = and_parts (bytes_eq condition (field 1)) (all_are shape (first ∷ second ∷ [])) found.0 in
@@ -137,32 +132,32 @@ module _ (pairs : List Pair) (k : Kind) where
         ports = (λ i. shape ∷ same_shape condition (field 1) tests.0 i ∷ [], same_shapes shape (first ∷ second ∷ []) tests.1);
         says = tt;
       })
-  branch-met given fed read e = refused BadPorts k e
+  branch-met inputs outputs read e = refused BadPorts k e
 
-  pub merge-met : (given fed : List Shape) → AreRead given → AreRead fed → merge_at given fed ≡ Ok k → MeetsRow component.TheVariants.Merge given fed pairs k
-  merge-met (shape ∷ shapes) (out ∷ []) read fed e =
+  pub merge-met : (inputs outputs : List Shape) → AreRead inputs → AreRead outputs → merge_at inputs outputs ≡ Ok k → MeetsRow component.TheVariants.Merge inputs outputs pairs k
+  merge-met (shape ∷ shapes) (out ∷ []) read_in read_out e =
       let merge = kind.TheVariants.Merge out (length (shape ∷ shapes)) in
       let found = where_are (all_are out (shape ∷ shapes)) merge k e in
       becomes component.TheVariants.Merge (shape ∷ shapes) (out ∷ []) pairs merge k found.1
-      (record { is = refl; ok = (All-head IsShape out [] fed.each, (omega arith, read.few)); ports = (same_shapes out (shape ∷ shapes) found.0, refl); says = tt })
-  merge-met given feds read fed e = refused BadPorts k e
+      (record { is = refl; ok = (All-head IsShape out [] read_out.each, (omega arith, read_in.few)); ports = (same_shapes out (shape ∷ shapes) found.0, refl); says = tt })
+  merge-met inputs outputs read_in read_out e = refused BadPorts k e
 
-  pub ctrl_merge-met : (given fed : List Shape) → AreRead given → AreRead fed → ctrl_merge_at given fed ≡ Ok k → MeetsRow component.TheVariants.CtrlMerge given fed pairs k
-  ctrl_merge-met (shape ∷ shapes) (out ∷ (width ∷ []) ∷ []) read fed e =
+  pub ctrl_merge-met : (inputs outputs : List Shape) → AreRead inputs → AreRead outputs → ctrl_merge_at inputs outputs ≡ Ok k → MeetsRow component.TheVariants.CtrlMerge inputs outputs pairs k
+  ctrl_merge-met (shape ∷ shapes) (out ∷ (width ∷ []) ∷ []) read_in read_out e =
       let merge = kind.TheVariants.CtrlMerge out (length (shape ∷ shapes)) width in
       let found = where_are (all_are out (shape ∷ shapes) && nat_le (length (shape ∷ shapes)) (2 ^ width)) merge k e in
       let tests = and_parts (all_are out (shape ∷ shapes)) (nat_le (length (shape ∷ shapes)) (2 ^ width)) found.0 in
-      let index = All-head IsShape (width ∷ []) [] (All-tail IsShape out ((width ∷ []) ∷ []) fed.each) in
+      let index = All-head IsShape (width ∷ []) [] (All-tail IsShape out ((width ∷ []) ∷ []) read_out.each) in
       becomes component.TheVariants.CtrlMerge (shape ∷ shapes) (out ∷ (width ∷ []) ∷ []) pairs merge k found.1
       (record {
         is = refl;
         ok = (
-          All-head IsShape out ((width ∷ []) ∷ []) fed.each,
-          (omega arith, read.few),
+          All-head IsShape out ((width ∷ []) ∷ []) read_out.each,
+          (omega arith, read_in.few),
           All-head (λ w. w ≤ 64) width [] index.narrow,
           leb-true (length (shape ∷ shapes)) (2 ^ width) tests.1,
         );
         ports = (same_shapes out (shape ∷ shapes) tests.0, refl);
         says = tt;
       })
-  ctrl_merge-met given feds read fed e = refused BadPorts k e
+  ctrl_merge-met inputs outputs read_in read_out e = refused BadPorts k e

@@ -4,18 +4,18 @@ use Rattle.graph_core.specs.declared.node.Node.{Node}
 use Rattle.graph_core.specs.Name.{Name}
 use Rattle.graph_core.specs.Node.{NodeOk, body_of}
 use Rattle.graph_read.specs.declared.fault.GraphFaultKind.{GraphFaultKind}
-use Rattle.graph_read.specs.declared.fault.NodeFault.{NodeFault}
-use Rattle.graph_read.specs.declared.fault.NodeFault.TheVariants.{Refused, NoMemory}
+use Rattle.graph_read.specs.declared.fault.StatementFault.{StatementFault}
+use Rattle.graph_read.specs.declared.fault.StatementFault.TheVariants.{Refused, NoMemory}
 use Rattle.graph_read.specs.NodeReading.{NodeReading}
 
 -- this is what is read, unless memory ran out
-abbrev pub IsRead : {A : Type 0} → Result A GraphFaultKind → Result A NodeFault → Type 0
+abbrev pub IsRead : {A : Type 0} → Result A GraphFaultKind → Result A StatementFault → Type 0
 IsRead read (Ok value) = read ≡ Ok value
 IsRead read (Err (Refused fault)) = read ≡ Err fault
 IsRead read (Err NoMemory) = Unit {0}
 
 -- this is a node of this name with the body that is read, unless memory ran out
-abbrev pub IsNodeRead : Name → NodeReading → Result Node NodeFault → Type 0
+abbrev pub IsNodeRead : Name → NodeReading → Result Node StatementFault → Type 0
 IsNodeRead name read (Ok node) = NodeOk node × (node.name ≡ name) × (read ≡ Ok (body_of node))
 IsNodeRead name read (Err (Refused fault)) = read ≡ Err fault
 IsNodeRead name read (Err NoMemory) = Unit {0}

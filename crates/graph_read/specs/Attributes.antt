@@ -1,13 +1,9 @@
 -- The attributes of a statement: the last pair of a key counts.
-use Rattle.std.specs.Prelude.{ℕ, not, ◌&&◌, nat_le, List, [], ◌∷◌, filter, reverse, Option, Some, None, bytes_eq, codes, if◌then◌else◌}
+use Rattle.std.specs.Prelude.{ℕ, ◌&&◌, nat_le, List, [], ◌∷◌, Option, Some, None, bytes_eq, codes, if◌then◌else◌}
 use Rattle.std.specs.Option.{option_or}
 use Rattle.std.specs.Char.{is_ascii_digit, is_ascii_hexdigit}
-use Rattle.std.specs.FinMap as map
 use Rattle.port_types.specs.Numeral.{digits_of, numeral_value}
 use Rattle.port_types.specs.PortGrammar.{text_behind}
-use Rattle.graph_core.specs.declared.kind.Kind.{Kind}
-use Rattle.graph_core.specs.Name.{name_cmp}
-use Rattle.graph_core.specs.Node.{is_owned}
 
 abbrev pub Pair : Type 0
 Pair = List ℕ × List ℕ
@@ -16,10 +12,6 @@ Pair = List ℕ × List ℕ
 abbrev pub last_value : List ℕ → List Pair → Option (List ℕ)
 last_value key [] = None
 last_value key (pair ∷ pairs) = option_or (last_value key pairs) (if bytes_eq pair.0 key then Some pair.1 else None)
-
--- the attributes that the kind does not own
-abbrev pub kept_of : Kind → List Pair → map.FinMap name_cmp (List ℕ)
-kept_of kind pairs = map.from_entries (filter (λ pair. not (is_owned kind pair.0)) (reverse pairs))
 
 abbrev pub value_behind : Option (List ℕ) → List ℕ → Option ℕ
 value_behind None text = digits_of is_ascii_digit 10 text

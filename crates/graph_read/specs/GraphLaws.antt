@@ -12,10 +12,10 @@ use Rattle.graph_read.specs.Pure.{has_pure}
 abbrev pub ReadIsTyped : Type 0
 ReadIsTyped = (doc : Doc) (g : NamedGraph) → graph_reading doc ≡ Ok g → IsTyped g × (map.len g.nodes ≤ 65536)
 
--- where the texts of its document are UTF-8 its names are allowed
+-- the names of a graph that is read are allowed, where the texts of its document are UTF-8
 abbrev pub ReadHasAllowedNames : Type 0
 ReadHasAllowedNames = (doc : Doc) (g : NamedGraph) → DocTexts IsUtf8 doc → graph_reading doc ≡ Ok g → HasAllowedNames g
 
--- no node of its document applies a function
+-- a document with a node that applies a function has no graph
 abbrev pub ReadHasNoPure : Type 0
 ReadHasNoPure = (doc : Doc) (g : NamedGraph) → graph_reading doc ≡ Ok g → has_pure doc ≡ false

@@ -17,14 +17,14 @@ use Rattle.graph_core.specs.GraphValue.{GraphValue, node_at, shape_at, named_gra
 use Rattle.graph_read.specs.declared.fault.GraphFault.{GraphFault}
 use Rattle.graph_read.specs.declared.fault.GraphFault.TheVariants as graph_fault
 use Rattle.graph_read.specs.declared.fault.GraphFaultKind.{GraphFaultKind}
-use Rattle.graph_read.specs.declared.fault.NodeFault.{NodeFault}
-use Rattle.graph_read.specs.declared.fault.NodeFault.TheVariants.{Refused, NoMemory}
+use Rattle.graph_read.specs.declared.fault.StatementFault.{StatementFault}
+use Rattle.graph_read.specs.declared.fault.StatementFault.TheVariants.{Refused, NoMemory}
 use Rattle.graph_read.specs.NodeReading.{NodeReading}
 use Rattle.graph_read.specs.Refusals.{IsRefusal}
 use Rattle.graph_read.specs.GraphReading.{NamedWire, refusal, named_in, port_there, wire_between, edge_reading}
 
 -- the fault of the node or edge at this place, unless memory ran out
-abbrev pub IsFaultAt : NodeFault → ℕ → Name → GraphFault → Type 0
+abbrev pub IsFaultAt : StatementFault → ℕ → Name → GraphFault → Type 0
 IsFaultAt (Refused kind) place name fault = IsRefusal {A = Body} (Err (refusal kind place name)) fault
 IsFaultAt NoMemory place name fault = fault ≡ graph_fault.NoMemory
 
@@ -45,7 +45,7 @@ pub record HasGained (read : NodeReading) (name : Name) (place : ℕ) (old new :
   pub by_name : named_graph new ≡ with_node (named_graph old) name (body_of node)
 
 -- the node that was read is added, unless memory ran out
-abbrev pub IsAdded : NodeReading → Name → ℕ → GraphValue → GraphValue → Result Unit NodeFault → Type 0
+abbrev pub IsAdded : NodeReading → Name → ℕ → GraphValue → GraphValue → Result Unit StatementFault → Type 0
 IsAdded read name place old new (Ok _) = HasGained read name place old new
 IsAdded read name place old new (Err (Refused fault)) = read ≡ Err fault
 IsAdded read name place old new (Err NoMemory) = Unit {0}
@@ -80,13 +80,13 @@ pub record HasEnds (g : GraphValue) (edge : DocEdge) (source target : PortAt) : 
   pub enters : shape_at g Ins target ≡ Some to
   pub is_read : edge_reading (named_graph g) edge ≡ wire_between (named_graph g) (Some (port_named g source, from)) (Some (port_named g target, to))
 
-abbrev pub AreEnds : GraphValue → DocEdge → Result (PortAt × PortAt) NodeFault → Type 0
+abbrev pub AreEnds : GraphValue → DocEdge → Result (PortAt × PortAt) StatementFault → Type 0
 AreEnds g edge (Ok ends) = HasEnds g edge ends.0 ends.1
 AreEnds g edge (Err (Refused fault)) = edge_reading (named_graph g) edge ≡ Err fault
 AreEnds g edge (Err NoMemory) = Unit {0}
 
 -- the wire that was read is added, unless memory ran out
-abbrev pub IsJoined : Result NamedWire GraphFaultKind → NamedGraph → NamedGraph → Result Unit NodeFault → Type 0
+abbrev pub IsJoined : Result NamedWire GraphFaultKind → NamedGraph → NamedGraph → Result Unit StatementFault → Type 0
 IsJoined read old new (Ok _) = (wire : NamedWire) × (read ≡ Ok wire) × (new ≡ with_wire old wire.source wire.target)
 IsJoined read old new (Err (Refused fault)) = read ≡ Err fault
 IsJoined read old new (Err NoMemory) = Unit {0}

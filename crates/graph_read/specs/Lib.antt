@@ -1,5 +1,4 @@
 pub mod Attributes
-pub mod LastPairs
 pub mod Rows
 pub mod Pure
 pub mod GraphLaws

@@ -10,11 +10,11 @@ use Rattle.port_types.specs.PortGrammar.{reading}
 use Rattle.dot_text.specs.declared.doc.DocNode.{DocNode}
 use Rattle.graph_core.specs.Kind.{Shape}
 use Rattle.graph_core.specs.Name.{Name}
-use Rattle.graph_core.specs.Node.{Body}
+use Rattle.graph_core.specs.Node.{Body, kept_of}
 use Rattle.graph_read.specs.declared.component.Component.{Component}
 use Rattle.graph_read.specs.declared.fault.GraphFaultKind.{GraphFaultKind}
 use Rattle.graph_read.specs.declared.fault.GraphFaultKind.TheVariants.{BadName, NameTaken, NoKind, UnknownKind, MemoryNode, MemoryPort, BadPorts, TooMany}
-use Rattle.graph_read.specs.Attributes.{Pair, last_value, kept_of}
+use Rattle.graph_read.specs.Attributes.{Pair, last_value}
 use Rattle.graph_read.specs.Rows.{Reading, component_of, row_reading}
 
 -- a node of a memory, which this format leaves out

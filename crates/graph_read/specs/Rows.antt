@@ -48,7 +48,7 @@ component_of word = option_or (find (λ component. bytes_eq (word_of component) 
 abbrev pub Reading : Type 0
 Reading = Result Kind GraphFaultKind
 
--- the kind, where the ports are so
+-- the kind, where the test of the ports holds
 abbrev pub where_ports : Bool → Kind → Reading
 where_ports are kind = if are then Ok kind else Err BadPorts
 

@@ -7,7 +7,7 @@ ghost use Rattle.graph_read.specs.Rows.{operator_at, operator_named, constant_at
 
 use crate::attributes::{last_value, tags_of, value_of};
 use crate::fault::GraphFaultKind::{BadOp, BadPorts, BadTags, BadValue};
-use crate::fault::NodeFault::{self, Refused};
+use crate::fault::StatementFault::{self, Refused};
 use crate::shapes::{are_fields, copy_of, is_bit, is_same, joined};
 use graph_core::Kind;
 use op_table::{op_of, typed_op};
@@ -20,7 +20,7 @@ pub(crate) fn operator_at(
     ins: &[Shape],
     outs: &[Shape],
     pairs: &[(Text, Text)],
-) -> Result<Kind, NodeFault>
+) -> Result<Kind, StatementFault>
     ensures { IsRead (operator_at ins.now outs.now (last_value (codes "op") pairs.now)) result }
 {
     let [out] = outs else {
@@ -33,7 +33,7 @@ pub(crate) fn operator_at(
 }
 
 /// The operator that the pairs name, where it takes and gives these widths.
-fn operator_of(widths: Vec<u8>, width: u8, pairs: &[(Text, Text)]) -> Result<Kind, NodeFault>
+fn operator_of(widths: Vec<u8>, width: u8, pairs: &[(Text, Text)]) -> Result<Kind, StatementFault>
     ensures { IsRead (operator_named widths.items width (last_value (codes "op") pairs.now)) result }
 {
     let Some(word) = last_value(b"op", pairs) else {
@@ -53,7 +53,7 @@ pub(crate) fn constant_at(
     ins: &[Shape],
     outs: &[Shape],
     pairs: &[(Text, Text)],
-) -> Result<Kind, NodeFault>
+) -> Result<Kind, StatementFault>
     ensures { IsRead (constant_at ins.now outs.now (last_value (codes "value") pairs.now)) result }
 {
     let ([shape], [out]) = (ins, outs) else {
@@ -70,7 +70,7 @@ fn constant_of(
     shape: &Shape,
     width: u8,
     pairs: &[(Text, Text)],
-) -> Result<Kind, NodeFault>
+) -> Result<Kind, StatementFault>
     ensures { IsRead (constant_of shape.now width (last_value (codes "value") pairs.now)) result }
 {
     let Some(text) = last_value(b"value", pairs) else {
@@ -87,7 +87,7 @@ pub(crate) fn init_at(
     ins: &[Shape],
     outs: &[Shape],
     pairs: &[(Text, Text)],
-) -> Result<Kind, NodeFault>
+) -> Result<Kind, StatementFault>
     ensures { IsRead (init_at ins.now outs.now (last_value (codes "value") pairs.now) (last_value (codes "ooo") pairs.now)) result }
 {
     match (ins, outs) {
@@ -96,7 +96,7 @@ pub(crate) fn init_at(
     }
 }
 
-fn init_of(pairs: &[(Text, Text)]) -> Result<Kind, NodeFault>
+fn init_of(pairs: &[(Text, Text)]) -> Result<Kind, StatementFault>
     ensures { IsRead (init_with (start_of (last_value (codes "value") pairs.now)) (last_value (codes "ooo") pairs.now)) result }
 {
     match start_of(pairs) {
@@ -134,7 +134,7 @@ pub(crate) fn tagger_at(
     ins: &[Shape],
     outs: &[Shape],
     pairs: &[(Text, Text)],
-) -> Result<Kind, NodeFault>
+) -> Result<Kind, StatementFault>
     ensures { IsRead (tagger_at ins.now outs.now (last_value (codes "tags") pairs.now)) result }
 {
     let ([shape, back], [tagged, out]) = (ins, outs) else {
@@ -155,7 +155,7 @@ fn tagger_of(
     shape: &Shape,
     width: u8,
     pairs: &[(Text, Text)],
-) -> Result<Kind, NodeFault>
+) -> Result<Kind, StatementFault>
     ensures { IsRead (tagger_of shape.now width (last_value (codes "tags") pairs.now)) result }
 {
     let Some(text) = last_value(b"tags", pairs) else {

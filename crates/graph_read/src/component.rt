@@ -1,3 +1,4 @@
+//! The words of the table of components.
 ghost use Rattle.std.specs.Prelude.{◌≡◌, find, bytes_eq};
 ghost use Rattle.graph_read.specs.Rows.{component_of, second_spelling, word_of};
 

@@ -1,5 +1,5 @@
 //! The wires of edges.
-ghost use Rattle.std.specs.Prelude.{◌≡◌, ◌≤◌, length, None, Some, codes, IfOk, IfErr, MatchOption};
+ghost use Rattle.std.specs.Prelude.{◌≡◌, None, Some, codes, IfOk, IfErr, MatchOption};
 ghost use Rattle.std.specs.FinMap as map_of;
 ghost use Rattle.graph_core.specs.Kind.{Shape, KindOk, ports};
 ghost use Rattle.graph_core.specs.GraphValue.{named_graph, port_named, shape_at};
@@ -12,10 +12,10 @@ ghost use Rattle.graph_read.specs.GraphSteps.{IsFound, IsPortThere, IsEnd, AreEn
 
 use crate::attributes::last_value;
 use crate::fault::GraphFaultKind::{PortTaken, ShapeDiffers, UnknownNode, UnknownPort};
-use crate::fault::NodeFault::{self, Refused};
+use crate::fault::StatementFault::{self, Refused};
 use crate::fault::{GraphFault, refusal_at};
 use dot_text::DocEdge;
-use graph_core::{AddWire, Graph, Kind, NodeId, PortAt, inputs, outputs};
+use graph_core::{AddWire, Graph, Kind, NodeId, PortAt, port_count};
 use port_types::{Side, Text, read_port_name};
 use std::alloc::Global;
 
@@ -26,17 +26,6 @@ fn node_named(g: &Graph, name: &[u8]) -> Option<NodeId>
     let id = g.find(name)?;
     g.node(id)?;
     Some(id)
-}
-
-/// How many ports a node of this kind has on a side.
-fn port_count(kind: &Kind, side: Side) -> u8
-    requires { KindOk kind.now }
-    ensures { result ≡ length (ports kind.now side) }
-{
-    match side {
-        Side::Ins => inputs(kind),
-        Side::Outs => outputs(kind),
-    }
 }
 
 /// The number of the port of this kind that the text names.
@@ -61,7 +50,7 @@ fn end_at(g: &Graph, id: NodeId, side: Side, key: &[u8], pairs: &[(Text, Text)])
 }
 
 /// The output and the input that an edge names.
-fn ends_of(g: &Graph, edge: &DocEdge) -> Result<(PortAt, PortAt), NodeFault>
+fn ends_of(g: &Graph, edge: &DocEdge) -> Result<(PortAt, PortAt), StatementFault>
     ensures { AreEnds g.now edge.now result }
 {
     let Some(from) = node_named(g, edge.source.bytes()) else {
@@ -81,7 +70,7 @@ fn ends_of(g: &Graph, edge: &DocEdge) -> Result<(PortAt, PortAt), NodeFault>
 }
 
 /// Joins an output to an input, which are there.
-fn join(g: &mut Graph, source: PortAt, target: PortAt) -> Result<(), NodeFault>
+fn join(g: &mut Graph, source: PortAt, target: PortAt) -> Result<(), StatementFault>
     ensures joined { (a b : Shape) → shape_at g.old Side.Outs source ≡ Some a → shape_at g.old Side.Ins target ≡ Some b
         → IsJoined (wire_between (named_graph g.old) (Some (port_named g.old source, a)) (Some (port_named g.old target, b))) (named_graph g.old) (named_graph g.new) result }
     ensures slots { g.new.slots ≡ g.old.slots }
@@ -91,12 +80,12 @@ fn join(g: &mut Graph, source: PortAt, target: PortAt) -> Result<(), NodeFault>
         Err(AddWire::UnknownPort) => Err(Refused(UnknownPort)),
         Err(AddWire::PortTaken) => Err(Refused(PortTaken)),
         Err(AddWire::ShapeDiffers) => Err(Refused(ShapeDiffers)),
-        Err(AddWire::NoMemory) => Err(NodeFault::NoMemory),
+        Err(AddWire::NoMemory) => Err(StatementFault::NoMemory),
     }
 }
 
 /// Adds the wire of an edge.
-fn add_edge(g: &mut Graph, edge: &DocEdge) -> Result<(), NodeFault>
+fn add_edge(g: &mut Graph, edge: &DocEdge) -> Result<(), StatementFault>
     ensures joined { IsJoined (edge_reading (named_graph g.old) edge.now) (named_graph g.old) (named_graph g.new) result }
     ensures slots { g.new.slots ≡ g.old.slots }
 {

@@ -1,6 +1,7 @@
+//! Why a document has no graph, and why one of its statements gives no node or no wire.
 ghost use Rattle.std.specs.Prelude.{◌≡◌};
 ghost use Rattle.graph_read.specs.GraphSteps.{IsFaultAt};
-ghost use Rattle.graph_read.specs.declared.fault.NodeFault.TheVariants.{NoMemory};
+ghost use Rattle.graph_read.specs.declared.fault.StatementFault.TheVariants.{NoMemory};
 
 use port_types::{NoMemory, Side, Text};
 use std::alloc::{AllocError, AllocFailed, Global};
@@ -63,42 +64,47 @@ pub enum GraphFault {
     NoMemory,
 }
 
-/// Why a statement has no node, or an edge no wire.
+/// Why a statement gives no node or no wire.
 #[derive(Clone, Copy, Debug, PartialEq, Eq)]
-pub(crate) enum NodeFault {
+pub(crate) enum StatementFault {
     Refused(GraphFaultKind),
     NoMemory,
 }
 
-impl From<NoMemory> for NodeFault {
+impl From<NoMemory> for StatementFault {
     ghost from_gives = { λ _ fault. fault ≡ NoMemory };
 
-    fn from(_: NoMemory) -> NodeFault {
-        NodeFault::NoMemory
+    fn from(_: NoMemory) -> StatementFault {
+        StatementFault::NoMemory
     }
 }
 
-impl From<AllocError> for NodeFault {
+impl From<AllocError> for StatementFault {
     ghost from_gives = { λ _ fault. fault ≡ NoMemory };
 
-    fn from(_: AllocError) -> NodeFault {
-        NodeFault::NoMemory
+    fn from(_: AllocError) -> StatementFault {
+        StatementFault::NoMemory
     }
 }
 
-impl<T: Drop> From<AllocFailed<T>> for NodeFault {
+impl<T: Drop> From<AllocFailed<T>> for StatementFault {
     ghost from_gives = { λ _ fault. fault ≡ NoMemory };
 
-    fn from(_: AllocFailed<T>) -> NodeFault {
-        NodeFault::NoMemory
+    fn from(_: AllocFailed<T>) -> StatementFault {
+        StatementFault::NoMemory
     }
 }
 
 /// The fault of the node or edge at this place, counted from 1; the name is that of the node, or of the edge's target.
-pub(crate) fn refusal_at(alloc: Global, fault: NodeFault, place: usize, name: &Text) -> GraphFault
+pub(crate) fn refusal_at(
+    alloc: Global,
+    fault: StatementFault,
+    place: usize,
+    name: &Text,
+) -> GraphFault
     ensures { IsFaultAt fault place name.now result }
 {
-    let NodeFault::Refused(kind) = fault else {
+    let StatementFault::Refused(kind) = fault else {
         return GraphFault::NoMemory;
     };
     match name.copy(alloc) {

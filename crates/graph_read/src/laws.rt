@@ -1,3 +1,4 @@
+//! Laws of what is read: of rows, of numbers, and of whole graphs.
 ghost use Rattle.graph_read.specs.Laws.{RowsAreMet, RowsReadBack, DecimalValues, HexadecimalValues, DecimalTags};
 ghost use Rattle.graph_read.specs.GraphLaws.{ReadIsTyped, ReadHasAllowedNames, ReadHasNoPure};
 

@@ -2,31 +2,30 @@
 //!
 //! - `graph_of`: the graph of a document, or its first refusal.
 //! - `GraphRefusal`: what is refused and where; `GraphFaultKind`: why.
+//! - `has_pure`: whether a node applies a function, which is not read yet.
+//! - `rows_are_met`, `rows_read_back`, `numbers_read_back`, `read_graphs_are_typed`: laws of what is read.
+//!
+//! Of `digraph { a [type=Entry, out="out1:8"] z [type=Exit, in="in1:8"] a -> z [from=out1, to=in1] }` the graph has two
+//! nodes and a wire; without its edge it is refused: `PortOpen` at place 1, for the first output of `a`.
 #![tactic(auto)]
 
 mod attribute_rows;
-#[cfg(test)]
-mod attribute_tests;
 mod attributes;
 mod component;
 mod edges;
 mod fault;
 mod graph;
-#[cfg(test)]
-mod graph_tests;
 mod kept;
 mod laws;
 mod node;
-#[cfg(test)]
-mod node_tests;
 mod nodes;
 mod open;
 mod plain_rows;
 mod pure;
-#[cfg(test)]
-mod pure_tests;
 mod rows;
 mod shapes;
+#[cfg(test)]
+mod tests;
 
 pub use fault::{GraphFault, GraphFaultKind, GraphRefusal};
 pub use graph::graph_of;

@@ -1,6 +1,6 @@
 //! The node of a statement.
 //!
-//! For the layer above, in the order of the refusals: `is_named` tells `BadName`, the graph tells `NameTaken`, `read_node`
+//! For the layer above, in the order of the refusals: `has_allowed_name` tells `BadName`, the graph tells `NameTaken`, `read_node`
 //! gives the node or the kind's first refusal, and the place of the node tells `TooMany`.
 ghost use Rattle.std.specs.Prelude.{◌≡◌, ◌≤◌, length, map, All, IsTrue, IfOk, MatchResult};
 ghost use Rattle.graph_core.specs.Kind.{KindOk};
@@ -16,7 +16,7 @@ ghost use Rattle.graph_read.specs.NodeReading.{is_memory, has_star, shapes_in, s
 use crate::attributes::last_value;
 use crate::component::{Component, component_of};
 use crate::fault::GraphFaultKind::{BadPorts, MemoryNode, MemoryPort, NoKind, UnknownKind};
-use crate::fault::NodeFault::{self, Refused};
+use crate::fault::StatementFault::{self, Refused};
 use crate::kept::kept_of;
 use crate::laws::rows_are_met;
 use crate::rows::kind_at;
@@ -26,7 +26,7 @@ use port_types::{Items, Port, PortFault, Shape, Side, Text, read_ports, reads_po
 use std::alloc::Global;
 
 /// Whether a node may have the name of the statement: 1 to 255 bytes, none of them below 33, a double quote or a backslash.
-pub(crate) fn is_named(statement: &DocNode) -> bool
+pub(crate) fn has_allowed_name(statement: &DocNode) -> bool
     ensures same { result ≡ is_name statement.now.name }
     ensures name { IsTrue result → IsName statement.now.name }
 {
@@ -36,7 +36,7 @@ pub(crate) fn is_named(statement: &DocNode) -> bool
 }
 
 /// The node that the statement says, with its last pairs, or the first refusal that its pairs give, from `NoKind` to `BadTags`.
-pub(crate) fn read_node(alloc: Global, statement: &DocNode) -> Result<Node, NodeFault>
+pub(crate) fn read_node(alloc: Global, statement: &DocNode) -> Result<Node, StatementFault>
     requires { IsName statement.now.name }
     ensures { IsNodeRead statement.now.name (body_reading statement.now.pairs) result }
 {
@@ -48,7 +48,7 @@ pub(crate) fn read_node(alloc: Global, statement: &DocNode) -> Result<Node, Node
 }
 
 /// The kind that the pairs of a node say.
-fn read_kind(alloc: Global, pairs: &[(Text, Text)]) -> Result<Kind, NodeFault>
+fn read_kind(alloc: Global, pairs: &[(Text, Text)]) -> Result<Kind, StatementFault>
     ensures reading { IsRead (kind_reading pairs.now) result }
     ensures ok { IfOk result KindOk }
 {
@@ -74,7 +74,7 @@ fn read_component(
     alloc: Global,
     component: Component,
     pairs: &[(Text, Text)],
-) -> Result<Kind, NodeFault>
+) -> Result<Kind, StatementFault>
     ensures reading { IsRead (component_reading component pairs.now) result }
     ensures ok { IfOk result KindOk }
 {
@@ -99,7 +99,11 @@ fn has_star(pairs: &[(Text, Text)], side: Side) -> bool
 }
 
 /// The shapes of the ports of a side, none where there is no text.
-fn read_side(alloc: Global, pairs: &[(Text, Text)], side: Side) -> Result<Items<Shape>, NodeFault>
+fn read_side(
+    alloc: Global,
+    pairs: &[(Text, Text)],
+    side: Side,
+) -> Result<Items<Shape>, StatementFault>
     ensures reading { IsRead (side_reading side pairs.now) result }
     ensures few { IfOk result (λ shapes. length shapes ≤ 64) }
     ensures shapes { IfOk result (λ shapes. All IsShape shapes) }
@@ -111,7 +115,7 @@ fn read_side(alloc: Global, pairs: &[(Text, Text)], side: Side) -> Result<Items<
 }
 
 /// The shapes of the ports that a text says.
-fn read_text(alloc: Global, text: &[u8], side: Side) -> Result<Items<Shape>, NodeFault>
+fn read_text(alloc: Global, text: &[u8], side: Side) -> Result<Items<Shape>, StatementFault>
     ensures reading { IsRead (shapes_in (reading side text.now)) result }
     ensures few { IfOk result (λ shapes. length shapes ≤ 64) }
     ensures shapes { IfOk result (λ shapes. All IsShape shapes) }
@@ -119,14 +123,14 @@ fn read_text(alloc: Global, text: &[u8], side: Side) -> Result<Items<Shape>, Nod
     reads_ports();
     match read_ports(alloc, text, side) {
         Ok(ports) => Ok(shapes_of(alloc, ports)?),
-        Err(PortFault::NoMemory) => Err(NodeFault::NoMemory),
+        Err(PortFault::NoMemory) => Err(StatementFault::NoMemory),
         Err(_) => Err(Refused(BadPorts)),
     }
 }
 
 /// The shapes of the ports. The only error is want of memory.
-fn shapes_of(alloc: Global, ports: Items<Port>) -> Result<Items<Shape>, NodeFault>
-    ensures { MatchResult result (λ shapes. shapes ≡ map (λ port. port.shape) ports) (λ fault. fault ≡ NodeFault.NoMemory) }
+fn shapes_of(alloc: Global, ports: Items<Port>) -> Result<Items<Shape>, StatementFault>
+    ensures { MatchResult result (λ shapes. shapes ≡ map (λ port. port.shape) ports) (λ fault. fault ≡ StatementFault.NoMemory) }
 {
     let mut shapes = Vec::new(alloc);
     for port in ports.into_vec() {

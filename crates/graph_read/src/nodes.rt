@@ -11,9 +11,9 @@ ghost use Rattle.graph_read.specs.NodeReading.{node_reading, body_reading, withi
 ghost use Rattle.graph_read.specs.GraphSteps.{StandInOrder, IsAdded};
 
 use crate::fault::GraphFaultKind::{BadName, NameTaken, TooMany};
-use crate::fault::NodeFault::{self, Refused};
+use crate::fault::StatementFault::{self, Refused};
 use crate::fault::{GraphFault, refusal_at};
-use crate::node::{is_named, read_node};
+use crate::node::{has_allowed_name, read_node};
 use dot_text::DocNode;
 use graph_core::{AddNode, Graph, Node};
 use std::alloc::Global;
@@ -22,7 +22,7 @@ use std::alloc::Global;
 const MAX_NODES: usize = 65_536;
 
 /// The node of the statement at this place, counted from 1, whatever names are taken.
-fn node_at(alloc: Global, statement: &DocNode, place: usize) -> Result<Node, NodeFault>
+fn node_at(alloc: Global, statement: &DocNode, place: usize) -> Result<Node, StatementFault>
     requires { IsName statement.now.name }
     ensures read { IsNodeRead statement.now.name (within_limit place (body_reading statement.now.pairs)) result }
     ensures few { IfOk result (λ _. place ≤ 65536) }
@@ -40,17 +40,17 @@ fn add_statement(
     g: &mut Graph,
     statement: &DocNode,
     place: usize,
-) -> Result<(), NodeFault>
+) -> Result<(), StatementFault>
     ensures { IsAdded (node_reading (names_of (named_nodes g.old.slots)) place statement.now) statement.now.name place g.old g.new result }
 {
-    if !is_named(statement) {
+    if !has_allowed_name(statement) {
         return Err(Refused(BadName));
     }
     match node_at(alloc, statement, place) {
         Ok(node) => match g.add_node(node) {
             Ok(_) => Ok(()),
             Err(AddNode::NameTaken) => Err(Refused(NameTaken)),
-            Err(AddNode::NoMemory) => Err(NodeFault::NoMemory),
+            Err(AddNode::NoMemory) => Err(StatementFault::NoMemory),
         },
         Err(_) if g.find(statement.name.bytes()).is_some() => Err(Refused(NameTaken)),
         Err(fault) => Err(fault),

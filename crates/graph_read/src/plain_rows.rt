@@ -4,14 +4,14 @@ ghost use Rattle.graph_read.specs.Answers.{IsRead};
 ghost use Rattle.graph_read.specs.Rows.{entry_at, exit_at, buffer_at, fork_at, join_at, split_at, source_at, sink_at, mux_at, branch_at, merge_at, ctrl_merge_at};
 
 use crate::fault::GraphFaultKind::BadPorts;
-use crate::fault::NodeFault::{self, Refused};
+use crate::fault::StatementFault::{self, Refused};
 use crate::shapes::{all_are, copies_of, copy_of, is_bit, is_same, joined, tells_apart};
 use graph_core::Kind;
 use port_types::Shape;
 use std::alloc::Global;
 
 /// An Entry may also have its shape as an input.
-pub(crate) fn entry_at(alloc: Global, ins: &[Shape], outs: &[Shape]) -> Result<Kind, NodeFault>
+pub(crate) fn entry_at(alloc: Global, ins: &[Shape], outs: &[Shape]) -> Result<Kind, StatementFault>
     ensures { IsRead (entry_at ins.now outs.now) result }
 {
     match (ins, outs) {
@@ -22,7 +22,7 @@ pub(crate) fn entry_at(alloc: Global, ins: &[Shape], outs: &[Shape]) -> Result<K
 }
 
 /// An Exit may also have its shape as an output.
-pub(crate) fn exit_at(alloc: Global, ins: &[Shape], outs: &[Shape]) -> Result<Kind, NodeFault>
+pub(crate) fn exit_at(alloc: Global, ins: &[Shape], outs: &[Shape]) -> Result<Kind, StatementFault>
     ensures { IsRead (exit_at ins.now outs.now) result }
 {
     match (ins, outs) {
@@ -32,7 +32,11 @@ pub(crate) fn exit_at(alloc: Global, ins: &[Shape], outs: &[Shape]) -> Result<Ki
     }
 }
 
-pub(crate) fn buffer_at(alloc: Global, ins: &[Shape], outs: &[Shape]) -> Result<Kind, NodeFault>
+pub(crate) fn buffer_at(
+    alloc: Global,
+    ins: &[Shape],
+    outs: &[Shape],
+) -> Result<Kind, StatementFault>
     ensures { IsRead (buffer_at ins.now outs.now) result }
 {
     match (ins, outs) {
@@ -41,7 +45,7 @@ pub(crate) fn buffer_at(alloc: Global, ins: &[Shape], outs: &[Shape]) -> Result<
     }
 }
 
-pub(crate) fn fork_at(alloc: Global, ins: &[Shape], outs: &[Shape]) -> Result<Kind, NodeFault>
+pub(crate) fn fork_at(alloc: Global, ins: &[Shape], outs: &[Shape]) -> Result<Kind, StatementFault>
     requires { length outs.now ≤ 64 }
     ensures { IsRead (fork_at ins.now outs.now) result }
 {
@@ -53,7 +57,7 @@ pub(crate) fn fork_at(alloc: Global, ins: &[Shape], outs: &[Shape]) -> Result<Ki
     }
 }
 
-pub(crate) fn join_at(alloc: Global, ins: &[Shape], outs: &[Shape]) -> Result<Kind, NodeFault>
+pub(crate) fn join_at(alloc: Global, ins: &[Shape], outs: &[Shape]) -> Result<Kind, StatementFault>
     ensures { IsRead (join_at ins.now outs.now) result }
 {
     match (ins, outs) {
@@ -64,7 +68,7 @@ pub(crate) fn join_at(alloc: Global, ins: &[Shape], outs: &[Shape]) -> Result<Ki
     }
 }
 
-pub(crate) fn split_at(alloc: Global, ins: &[Shape], outs: &[Shape]) -> Result<Kind, NodeFault>
+pub(crate) fn split_at(alloc: Global, ins: &[Shape], outs: &[Shape]) -> Result<Kind, StatementFault>
     ensures { IsRead (split_at ins.now outs.now) result }
 {
     match (ins, outs) {
@@ -75,7 +79,11 @@ pub(crate) fn split_at(alloc: Global, ins: &[Shape], outs: &[Shape]) -> Result<K
     }
 }
 
-pub(crate) fn source_at(alloc: Global, ins: &[Shape], outs: &[Shape]) -> Result<Kind, NodeFault>
+pub(crate) fn source_at(
+    alloc: Global,
+    ins: &[Shape],
+    outs: &[Shape],
+) -> Result<Kind, StatementFault>
     ensures { IsRead (source_at ins.now outs.now) result }
 {
     match (ins, outs) {
@@ -84,7 +92,7 @@ pub(crate) fn source_at(alloc: Global, ins: &[Shape], outs: &[Shape]) -> Result<
     }
 }
 
-pub(crate) fn sink_at(alloc: Global, ins: &[Shape], outs: &[Shape]) -> Result<Kind, NodeFault>
+pub(crate) fn sink_at(alloc: Global, ins: &[Shape], outs: &[Shape]) -> Result<Kind, StatementFault>
     ensures { IsRead (sink_at ins.now outs.now) result }
 {
     match (ins, outs) {
@@ -93,7 +101,7 @@ pub(crate) fn sink_at(alloc: Global, ins: &[Shape], outs: &[Shape]) -> Result<Ki
     }
 }
 
-pub(crate) fn mux_at(alloc: Global, ins: &[Shape], outs: &[Shape]) -> Result<Kind, NodeFault>
+pub(crate) fn mux_at(alloc: Global, ins: &[Shape], outs: &[Shape]) -> Result<Kind, StatementFault>
     ensures { IsRead (mux_at ins.now outs.now) result }
 {
     match (ins, outs) {
@@ -105,7 +113,11 @@ pub(crate) fn mux_at(alloc: Global, ins: &[Shape], outs: &[Shape]) -> Result<Kin
     }
 }
 
-pub(crate) fn branch_at(alloc: Global, ins: &[Shape], outs: &[Shape]) -> Result<Kind, NodeFault>
+pub(crate) fn branch_at(
+    alloc: Global,
+    ins: &[Shape],
+    outs: &[Shape],
+) -> Result<Kind, StatementFault>
     ensures { IsRead (branch_at ins.now outs.now) result }
 {
     match (ins, outs) {
@@ -117,7 +129,7 @@ pub(crate) fn branch_at(alloc: Global, ins: &[Shape], outs: &[Shape]) -> Result<
     }
 }
 
-pub(crate) fn merge_at(alloc: Global, ins: &[Shape], outs: &[Shape]) -> Result<Kind, NodeFault>
+pub(crate) fn merge_at(alloc: Global, ins: &[Shape], outs: &[Shape]) -> Result<Kind, StatementFault>
     requires { length ins.now ≤ 64 }
     ensures { IsRead (merge_at ins.now outs.now) result }
 {
@@ -130,7 +142,11 @@ pub(crate) fn merge_at(alloc: Global, ins: &[Shape], outs: &[Shape]) -> Result<K
 }
 
 /// The second output tells the inputs apart.
-pub(crate) fn ctrl_merge_at(alloc: Global, ins: &[Shape], outs: &[Shape]) -> Result<Kind, NodeFault>
+pub(crate) fn ctrl_merge_at(
+    alloc: Global,
+    ins: &[Shape],
+    outs: &[Shape],
+) -> Result<Kind, StatementFault>
     requires { length ins.now ≤ 64 }
     ensures { IsRead (ctrl_merge_at ins.now outs.now) result }
 {

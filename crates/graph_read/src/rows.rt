@@ -5,7 +5,7 @@ ghost use Rattle.graph_read.specs.Rows.{row_reading};
 
 use crate::attribute_rows::{constant_at, init_at, operator_at, tagger_at};
 use crate::component::Component;
-use crate::fault::NodeFault;
+use crate::fault::StatementFault;
 use crate::plain_rows::{
     branch_at, buffer_at, ctrl_merge_at, entry_at, exit_at, fork_at, join_at, merge_at, mux_at,
     sink_at, source_at, split_at,
@@ -22,7 +22,7 @@ pub(crate) fn kind_at(
     ins: &[Shape],
     outs: &[Shape],
     pairs: &[(Text, Text)],
-) -> Result<Kind, NodeFault>
+) -> Result<Kind, StatementFault>
     requires few_ins { length ins.now ≤ 64 }
     requires few_outs { length outs.now ≤ 64 }
     ensures { IsRead (row_reading component ins.now outs.now pairs.now) result }

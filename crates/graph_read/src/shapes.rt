@@ -4,7 +4,7 @@ ghost use Rattle.std.specs.List.{concat};
 ghost use Rattle.graph_core.specs.Kind.{field};
 ghost use Rattle.graph_read.specs.Rows.{all_are, are_fields};
 
-use crate::fault::NodeFault;
+use crate::fault::StatementFault;
 use port_types::{Items, Shape};
 use std::alloc::Global;
 
@@ -30,15 +30,15 @@ pub(crate) fn are_fields(shapes: &[Shape]) -> bool
 }
 
 /// An equal shape of its own. The only error is want of memory.
-pub(crate) fn copy_of(alloc: Global, shape: &Shape) -> Result<Shape, NodeFault>
-    ensures { MatchResult result (λ copy. copy ≡ shape.now) (λ fault. fault ≡ NodeFault.NoMemory) }
+pub(crate) fn copy_of(alloc: Global, shape: &Shape) -> Result<Shape, StatementFault>
+    ensures { MatchResult result (λ copy. copy ≡ shape.now) (λ fault. fault ≡ StatementFault.NoMemory) }
 {
     Ok(shape.copy(alloc)?)
 }
 
 /// Equal shapes of their own. The only error is want of memory.
-pub(crate) fn copies_of(alloc: Global, shapes: &[Shape]) -> Result<Items<Shape>, NodeFault>
-    ensures { MatchResult result (λ copies. copies ≡ shapes.now) (λ fault. fault ≡ NodeFault.NoMemory) }
+pub(crate) fn copies_of(alloc: Global, shapes: &[Shape]) -> Result<Items<Shape>, StatementFault>
+    ensures { MatchResult result (λ copies. copies ≡ shapes.now) (λ fault. fault ≡ StatementFault.NoMemory) }
 {
     let mut copies = Vec::new(alloc);
     for shape in shapes {
@@ -48,8 +48,8 @@ pub(crate) fn copies_of(alloc: Global, shapes: &[Shape]) -> Result<Items<Shape>,
 }
 
 /// The widths of the shapes, one after another. The only error is want of memory.
-pub(crate) fn joined(alloc: Global, shapes: &[Shape]) -> Result<Vec<u8>, NodeFault>
-    ensures { MatchResult result (λ widths. widths.items ≡ concat shapes.now) (λ fault. fault ≡ NodeFault.NoMemory) }
+pub(crate) fn joined(alloc: Global, shapes: &[Shape]) -> Result<Vec<u8>, StatementFault>
+    ensures { MatchResult result (λ widths. widths.items ≡ concat shapes.now) (λ fault. fault ≡ StatementFault.NoMemory) }
 {
     let mut widths = Vec::new(alloc);
     for shape in shapes {

@@ -1,4 +1,0 @@
-use Rattle.graph_print.proofs.tests.may_keep.Goals as goal
-
-pub returns-then-are_distinct : goal.returns-then-are_distinct
-returns-then-are_distinct c unowned = record { distinct = c.are_distinct.ensures c.if-are_distinct.true; unowned = c.are_unowned.ensures unowned }
