@@ -13,14 +13,12 @@
 mod arithmetic;
 mod bitwise;
 mod laws;
-#[cfg(test)]
-mod name_tests;
 mod op;
 mod shift;
+#[cfg(test)]
+mod tests;
 mod typing;
 mod value;
-#[cfg(test)]
-mod value_tests;
 mod word;
 
 pub use laws::{
