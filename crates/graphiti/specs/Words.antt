@@ -1,25 +1,18 @@
 -- The grammar of the command line: the words without the program's name, each as its bytes.
-use Rattle.std.specs.Prelude.{◌≡◌, ◌↔◌, ℕ, ◌≤◌, ◌<◌, ◌^◌, ◌==◌, ◌&&◌, ◌||◌, nat_le, not, Bool, false, IsTrue, List, [], ◌∷◌, Option, Some, None, codes, bytes_eq, if◌then◌else◌}
-use Rattle.std.specs.Char.{is_ascii_digit}
-use Rattle.std.specs.List.{list_all}
-use Rattle.std.specs.Str.Parse.{digits_value}
+use Rattle.std.specs.Prelude.{◌≡◌, ◌↔◌, ℕ, ◌≤◌, ◌<◌, ◌^◌, ◌&&◌, ◌||◌, nat_le, Bool, false, IsTrue, List, [], ◌∷◌, Option, Some, None, codes, bytes_eq, if◌then◌else◌}
 use Rattle.std.specs.Fmt.{decimal}
+use Rattle.port_types.specs.Numeral.{numeral_value}
 use Rattle.graphiti.specs.declared.words.Command.{Command}
 use Rattle.graphiti.specs.declared.words.Command.TheVariants.{Print, Strip, Later}
 
--- a decimal numeral: digits alone, and no zero before another digit
-abbrev pub is_numeral : List ℕ → Bool
-is_numeral [] = false
-is_numeral (digit ∷ []) = is_ascii_digit digit
-is_numeral (first ∷ second ∷ more) = not (first == 48) && list_all is_ascii_digit (first ∷ second ∷ more)
-
--- its number is from the least to the most
-abbrev pub has_value : ℕ → ℕ → List ℕ → Bool
-has_value least most numeral = let number = digits_value 10 numeral in nat_le least number && nat_le number most
+-- there is a number, from the least to the most
+abbrev pub is_within : ℕ → ℕ → Option ℕ → Bool
+is_within least most None = false
+is_within least most (Some number) = nat_le least number && nat_le number most
 
 -- a decimal numeral of such a number
 unfoldable pub is_number : ℕ → ℕ → List ℕ → Bool
-is_number least most word = is_numeral word && has_value least most word
+is_number least most word = is_within least most (numeral_value word)
 
 -- a command that stands alone and does not run yet
 unfoldable pub is_alone : List ℕ → Bool

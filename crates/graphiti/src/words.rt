@@ -1,8 +1,8 @@
 //! The commands that the words of the command line name.
-ghost use Rattle.std.specs.Prelude.{◌≡◌, ◌&&◌, nat_le, true, [], ◌∷◌, map, string_bytes, bytes_eq, codes};
-ghost use Rattle.std.specs.Char.{is_ascii_digit};
-ghost use Rattle.std.specs.List.{list_all};
-ghost use Rattle.graphiti.specs.Words.{is_numeral, has_value, is_number, is_alone, one_word, with_number, command_of, TellsNumbers};
+ghost use Rattle.std.specs.Prelude.{◌≡◌, [], ◌∷◌, map, string_bytes, bytes_eq, codes};
+ghost use Rattle.graphiti.specs.Words.{is_number, is_alone, one_word, with_number, command_of, TellsNumbers};
+
+use port_types::{numerals_tell_numbers, read_numeral};
 
 /// A command of the grammar.
 #[derive(Clone, Copy, Debug, PartialEq, Eq)]
@@ -22,7 +22,9 @@ const MAX_GENERATED: u64 = 2_000;
 /// The test of a number finds just what is written in decimal for a number of the range.
 pub fn tells_numbers()
     ensures { TellsNumbers }
-{}
+{
+    numerals_tell_numbers();
+}
 
 /// The command that the words name, or `None` where they are not of the grammar.
 pub(crate) fn command_of(words: &[String]) -> Option<Command>
@@ -112,40 +114,8 @@ fn with_number(word: &str, number: &str) -> Option<Command>
 fn is_number(word: &str, least: u64, most: u64) -> bool
     ensures { result ≡ is_number least most word.now }
 {
-    is_numeral(word.as_bytes()) && has_value(word, least, most)
-}
-
-/// Whether a decimal numeral is of a number in this range.
-fn has_value(word: &str, least: u64, most: u64) -> bool
-    requires { is_numeral word.now ≡ true }
-    ensures { result ≡ has_value least most word.now }
-{
-    match word.parse::<u64>() {
-        Ok(number) => is_within(number, least, most),
-        Err(_) => false,
+    match read_numeral(word.as_bytes()) {
+        Some(number) => least <= number && number <= most,
+        None => false,
     }
-}
-
-fn is_within(number: u64, least: u64, most: u64) -> bool
-    ensures { result ≡ (nat_le least number && nat_le number most) }
-{
-    least <= number && number <= most
-}
-
-/// Whether the bytes are a decimal numeral: digits alone, and no zero before another digit.
-#[tactic(auto, using(crate::proofs::Numerals::numeral_of_more))]
-fn is_numeral(bytes: &[u8]) -> bool
-    ensures { result ≡ is_numeral bytes.now }
-{
-    match bytes {
-        [] => false,
-        [digit] => digit.is_ascii_digit(),
-        [first, ..] => *first != b'0' && are_digits(bytes),
-    }
-}
-
-fn are_digits(bytes: &[u8]) -> bool
-    ensures { result ≡ list_all is_ascii_digit bytes.now }
-{
-    bytes.iter().all(|byte| byte.is_ascii_digit())
 }

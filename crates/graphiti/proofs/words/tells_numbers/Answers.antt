@@ -2,4 +2,4 @@ use Rattle.graphiti.proofs.Numerals.{tells_numbers}
 use Rattle.graphiti.proofs.words.tells_numbers.Goals as goal
 
 pub returns : goal.returns
-returns c = tells_numbers
+returns c = tells_numbers c.numerals_tell_numbers.ensures
