@@ -14,9 +14,9 @@ use Rattle.port_types.specs.PortText.{side_word, marked_ports_text}
 use Rattle.graph_core.specs.declared.kind.Kind.{Kind}
 use Rattle.graph_core.specs.declared.kind.Kind.TheVariants.{Entry, Exit, Buffer, Fork, Join, Split, Operator, Constant, Source0, Sink0, Mux, Branch, Merge, CtrlMerge, Init, Tagger}
 use Rattle.graph_core.specs.Name.{Name, name_cmp}
-use Rattle.graph_core.specs.Node.{Body, IsOwned, is_owned}
+use Rattle.graph_core.specs.Node.{Body, IsOwned, is_owned, kept_of}
 use Rattle.graph_print.specs.CanonicalText.{PrintedPort, kind_word, own_pairs, side_pairs, printed_side, marked_ports, pairs_of}
-use Rattle.graph_read.specs.Attributes.{Pair, last_value, kept_of}
+use Rattle.graph_read.specs.Attributes.{Pair, last_value}
 use Rattle.graphiti.proofs.EntryLists as lists
 use Rattle.graphiti.proofs.Lookups.{name_total, name_same, name_cases, same_test, other_test, same_bytes, other_bytes}
 use Rattle.graphiti.proofs.Each.{each_append}

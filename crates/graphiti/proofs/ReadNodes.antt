@@ -24,16 +24,17 @@ use Rattle.dot_text.specs.Printing.{CanBeQuoted, PairPrints, NodePrints}
 use Rattle.dot_text.specs.Texts.{PairTexts, NodeTexts}
 use Rattle.dot_text.specs.declared.doc.DocNode.{DocNode}
 use Rattle.dot_text.specs.declared.doc.DocEdge.{DocEdge}
+use Rattle.port_types.specs.Numeral.{in_word, digits_of}
 use Rattle.graph_core.specs.declared.kind.Kind.{Kind}
 use Rattle.graph_core.specs.declared.kind.Kind.TheVariants.{Constant}
 use Rattle.graph_core.specs.Name.{Name, name_cmp}
 use Rattle.graph_core.specs.Kind.{Shape}
-use Rattle.graph_core.specs.Node.{Body, is_owned}
+use Rattle.graph_core.specs.Node.{Body, is_owned, kept_of}
 use Rattle.graph_core.specs.NamedGraph.{NamedGraph, with_wire}
 use Rattle.graph_read.specs.declared.fault.GraphFaultKind.{GraphFaultKind}
 use Rattle.graph_read.specs.declared.fault.GraphFaultKind.TheVariants.{BadName, NameTaken, MemoryNode, MemoryPort, UnknownKind, TooMany}
 use Rattle.graph_read.specs.declared.fault.GraphRefusal.{GraphRefusal}
-use Rattle.graph_read.specs.Attributes.{Pair, last_value, kept_of, in_word, digits_of, value_behind}
+use Rattle.graph_read.specs.Attributes.{Pair, last_value, value_behind}
 use Rattle.graph_read.specs.Rows.{Reading, component_of}
 use Rattle.graph_read.specs.NodeReading.{NodeReading, is_memory, is_name, shapes_in, text_reading, side_reading, ports_reading, component_reading, named_reading, word_reading, kind_reading, with_kept, body_reading, within_limit, node_reading}
 use Rattle.graph_read.specs.GraphReading.{refusal, graph_reading, NamedWire, NodesReading, GraphReading, then_read, names_of, nodes_reading, edge_reading, edges_reading, first_open, graph_of_nodes, unless, closed, wired}
