@@ -62,15 +62,12 @@ fn fork_text(alloc: Global, outputs: u32) -> Result<String, AllocError> {
 }
 
 /// A document of Sources without wires, named by their numbers from 1 on.
-fn sources_text(alloc: Global, sources: u32) -> Result<Vec<u8>, AllocError> {
-    let mut text = Vec::from_slice(alloc, b"digraph {\n")?;
+fn sources_text(alloc: Global, sources: u32) -> Result<String, AllocError> {
+    let mut text = String::from_str(alloc, "digraph {\n")?;
     for number in 1..=sources {
-        let name = [10_000, 1_000, 100, 10, 1].map(|unit| b'0' + (number / unit % 10) as u8);
-        text.push(b'_')?;
-        text.extend_from_slice(&name)?;
-        text.extend_from_slice(b"[type=Source out=\"out1:0\"]\n")?;
+        write!(text, "_{number:05}[type=Source out=\"out1:0\"]\n")?;
     }
-    text.push(b'}')?;
+    text.push('}')?;
     Ok(text)
 }
 
@@ -99,14 +96,14 @@ fn a_fork_has_at_most_64_outputs(rt: HostRuntime) -> Result<(), Fail> {
 fn the_node_at_place_65536_is_taken(rt: HostRuntime) -> Result<(), Fail> {
     let text = sources_text(rt.alloc(), 65_536)?;
     let wanted = Wanted::refused(3, "graphiti: PortOpen \"_00001\" out1\n");
-    check_run(&rt, CALM, &["print"], &text, wanted)
+    check_run(&rt, CALM, &["print"], text.as_bytes(), wanted)
 }
 
 #[test]
 fn the_node_at_place_65537_is_one_too_many(rt: HostRuntime) -> Result<(), Fail> {
     let text = sources_text(rt.alloc(), 65_537)?;
     let wanted = Wanted::refused(3, "graphiti: TooMany \"_65537\"\n");
-    check_run(&rt, CALM, &["print"], &text, wanted)
+    check_run(&rt, CALM, &["print"], text.as_bytes(), wanted)
 }
 
 #[test]

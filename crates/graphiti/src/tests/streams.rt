@@ -28,12 +28,10 @@ fn check_fronts(
     input: &str,
     answer: &str,
 ) -> Result<(), Fail> {
-    let mut failing_write = 0;
     for length in 0..answer.len() {
-        failing_write += 1;
         let setting = Setting {
             piece: 1,
-            failing_write,
+            failing_write: length as u64 + 1,
             ..CALM
         };
         let front = &answer.as_bytes()[..length];
