@@ -5,13 +5,13 @@ use Rattle.std.proofs.lemmas.List.Elements.{All-weaker}
 use Rattle.std.proofs.lemmas.Option.{none-some}
 use Rattle.port_types.specs.declared.side.Side.{Side}
 use Rattle.port_types.specs.declared.side.Side.TheVariants.{Ins, Outs}
-use Rattle.graph_core.specs.declared.node.Node.{Node}
+use Rattle.components.specs.declared.node.Node.{Node}
 use Rattle.graph_core.specs.declared.place.NodeId.{NodeId}
 use Rattle.graph_core.specs.declared.place.PortAt.{PortAt}
 use Rattle.graph_core.specs.Place.{index_of, id_of}
-use Rattle.graph_core.specs.Name.{Name, Port, port_get}
-use Rattle.graph_core.specs.Kind.{Shape, ins, outs, ports}
-use Rattle.graph_core.specs.Node.{Body, body_of}
+use Rattle.components.specs.Name.{Name, Port, port_get}
+use Rattle.components.specs.Kind.{Shape, ins, outs, ports}
+use Rattle.components.specs.Node.{Body, body_of}
 use Rattle.graph_core.specs.GraphValue.{GraphValue, node_at, shape_of, named_graph, named_nodes, name_of, port_named, HasName, IsGraph}
 use Rattle.graph_core.proofs.Options.{answer_cases}
 use Rattle.graph_core.proofs.Maps.{each_found, renamed_found, renamed_behind}

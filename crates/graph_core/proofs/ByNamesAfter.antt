@@ -9,15 +9,15 @@ use Rattle.std.proofs.lemmas.List.{nil_from_length}
 use Rattle.std.proofs.lemmas.List.Elements.{All-weaker, All-tail}
 use Rattle.std.specs.List.{All}
 use Rattle.port_types.specs.declared.side.Side.TheVariants.{Ins, Outs}
-use Rattle.graph_core.specs.declared.node.Node.{Node}
+use Rattle.components.specs.declared.node.Node.{Node}
 use Rattle.graph_core.specs.declared.place.NodeId.{NodeId}
 use Rattle.graph_core.specs.declared.place.PortAt.{PortAt}
 use Rattle.graph_core.specs.declared.graph.AddWire.TheVariants.{PortTaken, ShapeDiffers, UnknownPort}
 use Rattle.graph_core.specs.Place.{index_of, place_cmp}
-use Rattle.graph_core.specs.Name.{Name, Port}
-use Rattle.graph_core.specs.Kind.{Shape}
-use Rattle.graph_core.specs.Node.{Body, body_of}
-use Rattle.graph_core.specs.NamedGraph.{no_graph, with_node, with_wire, without_node, is_of}
+use Rattle.components.specs.Name.{Name, Port}
+use Rattle.components.specs.Kind.{Shape}
+use Rattle.components.specs.Node.{Body, body_of}
+use Rattle.components.specs.NamedGraph.{no_graph, with_node, with_wire, without_node, is_of}
 use Rattle.graph_core.specs.GraphValue.{GraphValue, flat, node_at, shape_at, named_nodes, named_wire, name_of, named_graph, port_named, is_at, IsGraph, with_slot, with_feeder, without_id, is_kept}
 use Rattle.graph_core.specs.Wiring.{fault_between, is_taken, wire_fault}
 use Rattle.graph_core.proofs.Options.{same_answers}

@@ -6,13 +6,13 @@ use Rattle.std.proofs.lemmas.Option.{same_Some, none-some}
 use Rattle.std.proofs.lemmas.Slice.Eq.{bytes_eq-Decides}
 use Rattle.port_types.specs.declared.side.Side.{Side}
 use Rattle.port_types.specs.declared.side.Side.TheVariants.{Ins, Outs}
-use Rattle.graph_core.specs.declared.node.Node.{Node}
+use Rattle.components.specs.declared.node.Node.{Node}
 use Rattle.graph_core.specs.declared.place.PortAt.{PortAt}
 use Rattle.graph_core.specs.declared.graph.AddWire.TheVariants.{ShapeDiffers}
-use Rattle.graph_core.specs.Name.{port_get}
-use Rattle.graph_core.specs.Kind.{Shape, ports}
-use Rattle.graph_core.specs.Node.{Body, body_of}
-use Rattle.graph_core.specs.NamedGraph.{CanWire}
+use Rattle.components.specs.Name.{port_get}
+use Rattle.components.specs.Kind.{Shape, ports}
+use Rattle.components.specs.Node.{Body, body_of}
+use Rattle.components.specs.NamedGraph.{CanWire}
 use Rattle.graph_core.specs.GraphValue.{GraphValue, node_at, shape_of, shape_at, feeds, named_graph, port_named, IsGraph}
 use Rattle.graph_core.specs.Wiring.{fault_between, is_taken, wire_fault}
 use Rattle.graph_core.proofs.Options.{answer_cases}

@@ -7,11 +7,11 @@ use Rattle.std.proofs.lemmas.Option.{same_Some, none-some}
 use Rattle.std.proofs.lemmas.Bool.{false_from_ne_true, or_parts, or_right}
 use Rattle.port_types.specs.declared.side.Side.{Side}
 use Rattle.port_types.specs.declared.side.Side.TheVariants.{Ins, Outs}
-use Rattle.graph_core.specs.declared.node.Node.{Node}
-use Rattle.graph_core.specs.Name.{port_get}
+use Rattle.components.specs.declared.node.Node.{Node}
+use Rattle.components.specs.Name.{port_get}
 use Rattle.graph_core.specs.declared.place.PortAt.{PortAt}
 use Rattle.graph_core.specs.declared.graph.AddWire.TheVariants.{PortTaken, ShapeDiffers}
-use Rattle.graph_core.specs.Kind.{Shape, ins, outs}
+use Rattle.components.specs.Kind.{Shape, ins, outs}
 use Rattle.graph_core.specs.GraphValue.{GraphValue, node_at, shape_of, shape_at, feeds}
 use Rattle.graph_core.specs.Wiring.{wire_fault, fault_between, is_taken}
 use Rattle.graph_core.proofs.Options.{some_there, none_by}

@@ -3,12 +3,12 @@ use Rattle.std.proofs.Common.{◌≡◌, false, Option, Some, None, IsSome, IfSo
 use Rattle.std.specs.Option.{option_map}
 use Rattle.std.specs.FinMap as map
 use Rattle.port_types.specs.declared.side.Side.{Side}
-use Rattle.graph_core.specs.declared.node.Node.{Node}
+use Rattle.components.specs.declared.node.Node.{Node}
 use Rattle.graph_core.specs.declared.place.NodeId.{NodeId}
 use Rattle.graph_core.specs.declared.place.PortAt.{PortAt}
-use Rattle.graph_core.specs.Name.{Name}
-use Rattle.graph_core.specs.Kind.{Shape}
-use Rattle.graph_core.specs.Node.{Body, body_of}
+use Rattle.components.specs.Name.{Name}
+use Rattle.components.specs.Kind.{Shape}
+use Rattle.components.specs.Node.{Body, body_of}
 use Rattle.graph_core.specs.GraphValue.{GraphValue, IsGraph, HasName, node_at, shape_of, shape_at, named_graph, port_named}
 use Rattle.graph_core.proofs.ByNames.{node_found, node_behind, wire_found, wire_none}
 

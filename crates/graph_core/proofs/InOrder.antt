@@ -11,10 +11,10 @@ use Rattle.std.specs.FinMap.Entries.{put, by_order}
 use Rattle.std.specs.Cmp.{Equal-is}
 use Rattle.std.proofs.lemmas.List.{nil_from_length}
 use Rattle.std.proofs.lemmas.Option.{none-some}
-use Rattle.graph_core.specs.declared.node.Node.{Node}
+use Rattle.components.specs.declared.node.Node.{Node}
 use Rattle.graph_core.specs.declared.place.NodeId.{NodeId}
-use Rattle.graph_core.specs.Name.{Name, name_cmp}
-use Rattle.graph_core.specs.Node.{Body, body_of}
+use Rattle.components.specs.Name.{Name, name_cmp}
+use Rattle.components.specs.Node.{Body, body_of}
 use Rattle.graph_core.specs.GraphValue.{flat, named, named_nodes}
 use Rattle.graph_core.specs.Inside.{IsNamedAt, AreNamedApart}
 use Rattle.graph_core.proofs.ByKey.{Matches, Matches-insert, ref_cmp}

@@ -6,13 +6,13 @@ use Rattle.std.specs.Ordering.{eq_by_cmp}
 use Rattle.std.proofs.lemmas.Option.{same_Some, none-some}
 use Rattle.port_types.specs.declared.side.Side.{Side}
 use Rattle.port_types.specs.declared.side.Side.TheVariants.{Ins, Outs}
-use Rattle.graph_core.specs.declared.node.Node.{Node}
+use Rattle.components.specs.declared.node.Node.{Node}
 use Rattle.graph_core.specs.declared.place.NodeId.{NodeId}
 use Rattle.graph_core.specs.declared.place.PortAt.{PortAt}
 use Rattle.graph_core.specs.Place.{place_cmp}
-use Rattle.graph_core.specs.Name.{Name}
-use Rattle.graph_core.specs.Kind.{Shape}
-use Rattle.graph_core.specs.Node.{NodeOk}
+use Rattle.components.specs.Name.{Name}
+use Rattle.components.specs.Kind.{Shape}
+use Rattle.components.specs.Node.{NodeOk}
 use Rattle.graph_core.specs.GraphValue.{GraphValue, IsGraph, HasName, node_at, shape_of, shape_at, is_at, with_slot, with_feeder, without_id, is_kept}
 use Rattle.graph_core.specs.Wiring.{wire_fault}
 use Rattle.graph_core.proofs.Orders.{place_total, place_same}

@@ -1,7 +1,7 @@
 -- The table of names keeps up with the slots.
 use Rattle.std.proofs.Common.{◌≡◌, ◌≢◌, inl, inr, ℕ, List, [], ◌∷◌, ◌++◌, length, Option, Some, None, slice_get, slice_set, refl, sym, ap, ◌∙◌}
 use Rattle.std.proofs.lemmas.Option.{same_Some, none-some}
-use Rattle.graph_core.specs.declared.node.Node.{Node}
+use Rattle.components.specs.declared.node.Node.{Node}
 use Rattle.graph_core.specs.declared.names.Names.{Names}
 use Rattle.graph_core.specs.declared.place.NodeId.{NodeId}
 use Rattle.graph_core.specs.Place.{id_of}

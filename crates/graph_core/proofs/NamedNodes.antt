@@ -4,9 +4,9 @@ use Rattle.std.specs.Prelude.{slice_get, slice_set}
 use Rattle.std.specs.FinMap.{find}
 use Rattle.std.proofs.Math.Nat.{suc_inj}
 use Rattle.std.proofs.lemmas.Option.{same_Some, none-some}
-use Rattle.graph_core.specs.declared.node.Node.{Node}
-use Rattle.graph_core.specs.Name.{Name, name_cmp}
-use Rattle.graph_core.specs.Node.{Body, body_of}
+use Rattle.components.specs.declared.node.Node.{Node}
+use Rattle.components.specs.Name.{Name, name_cmp}
+use Rattle.components.specs.Node.{Body, body_of}
 use Rattle.graph_core.specs.GraphValue.{flat, named, named_nodes}
 use Rattle.graph_core.proofs.Maps.{same_key, key_cases}
 use Rattle.graph_core.proofs.Orders.{name_total, name_same}

@@ -4,11 +4,11 @@ use Rattle.std.specs.Prelude.{◌↔◌, IsTrue, IsSome, nat_le}
 use Rattle.std.proofs.lemmas.Bool.{leb-true, le-leb}
 use Rattle.port_types.specs.declared.side.Side.{Side}
 use Rattle.port_types.specs.declared.side.Side.TheVariants.{Ins, Outs}
-use Rattle.graph_core.specs.declared.node.Node.{Node}
+use Rattle.components.specs.declared.node.Node.{Node}
 use Rattle.graph_core.specs.declared.place.NodeId.{NodeId}
 use Rattle.graph_core.specs.declared.graph.PortOpen.{PortOpen}
-use Rattle.graph_core.specs.Name.{port_get}
-use Rattle.graph_core.specs.Kind.{ins, outs, ports}
+use Rattle.components.specs.Name.{port_get}
+use Rattle.components.specs.Kind.{ins, outs, ports}
 use Rattle.graph_core.specs.GraphValue.{GraphValue, node_at, shape_of, shape_at}
 use Rattle.graph_core.specs.Wiring.{IsFree, IsOpen, ComesBefore}
 use Rattle.graph_core.proofs.Options.{some_there}

@@ -5,7 +5,7 @@ use Rattle.std.specs.Cmp.{IsTotalOrder}
 use Rattle.std.specs.FinMap.{IsAntisymmetric, nat_cmp-IsAntisymmetric, slice_cmp-IsAntisymmetric}
 use Rattle.std.proofs.lemmas.Cmp.{nat_cmp_total, nat_list_cmp_total, on_total, then_total}
 use Rattle.graph_core.specs.declared.place.PortAt.{PortAt}
-use Rattle.graph_core.specs.Name.{Port, name_cmp, port_cmp}
+use Rattle.components.specs.Name.{Port, name_cmp, port_cmp}
 use Rattle.graph_core.specs.Place.{place_cmp}
 
 -- two orders in turn tie where both do

@@ -2,12 +2,12 @@
 use Rattle.std.proofs.Common.{◌≡◌, ◌↔◌, ℕ, ◌≤◌, length, Some, is_some, sym, ap, subst, ◌∙◌, arith}
 use Rattle.std.specs.FinMap as map
 use Rattle.std.proofs.lemmas.Option.{same_Some}
-use Rattle.graph_core.specs.declared.node.Node.{Node}
+use Rattle.components.specs.declared.node.Node.{Node}
 use Rattle.graph_core.specs.declared.place.NodeId.{NodeId}
-use Rattle.graph_core.specs.Name.{Name, Port}
-use Rattle.graph_core.specs.Kind.{ins}
-use Rattle.graph_core.specs.Node.{Body, body_of}
-use Rattle.graph_core.specs.NamedGraph.{NamedGraph}
+use Rattle.components.specs.Name.{Name, Port}
+use Rattle.components.specs.Kind.{ins}
+use Rattle.components.specs.Node.{Body, body_of}
+use Rattle.components.specs.NamedGraph.{NamedGraph}
 use Rattle.graph_core.specs.GraphValue.{GraphValue, IsGraph, HasName, node_at, name_of, named_graph, port_named}
 use Rattle.graph_core.specs.OpenPorts.{port_at}
 use Rattle.graph_core.specs.Within.{IsFedIn, StandsIn, IsWithin}

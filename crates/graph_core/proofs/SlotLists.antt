@@ -1,7 +1,7 @@
 -- Live nodes in a list of slots.
 use Rattle.std.proofs.Common.{◌≡◌, ◌⊎◌, inl, inr, ℕ, zero, suc, ◌<◌, List, [], ◌∷◌, ◌++◌, length, get_or, Option, Some, None, slice_get, slice_set, refl, sym, ap, arith}
 use Rattle.std.proofs.lemmas.Option.{slice_get-get_or, same_Some}
-use Rattle.graph_core.specs.declared.node.Node.{Node}
+use Rattle.components.specs.declared.node.Node.{Node}
 use Rattle.graph_core.specs.GraphValue.{flat}
 
 -- what stands at an index is what reading it gives

@@ -4,13 +4,13 @@ use Rattle.std.specs.FinMap as map
 use Rattle.std.proofs.lemmas.Option.{none-some}
 use Rattle.port_types.specs.declared.side.Side.{Side}
 use Rattle.port_types.specs.declared.side.Side.TheVariants.{Ins, Outs}
-use Rattle.graph_core.specs.declared.node.Node.{Node}
+use Rattle.components.specs.declared.node.Node.{Node}
 use Rattle.graph_core.specs.declared.place.PortAt.{PortAt}
 use Rattle.graph_core.specs.declared.graph.PortOpen.{PortOpen}
-use Rattle.graph_core.specs.Name.{Name, Port, port_get}
-use Rattle.graph_core.specs.Kind.{Shape, ins, outs, ports, KindOk}
-use Rattle.graph_core.specs.Node.{Body, body_of}
-use Rattle.graph_core.specs.NamedGraph.{IsTyped, IsWire}
+use Rattle.components.specs.Name.{Name, Port, port_get}
+use Rattle.components.specs.Kind.{Shape, ins, outs, ports, KindOk}
+use Rattle.components.specs.Node.{Body, body_of}
+use Rattle.components.specs.NamedGraph.{IsTyped, IsWire}
 use Rattle.graph_core.specs.GraphValue.{GraphValue, node_at, shape_of, shape_at, name_of, named_graph, port_named, IsGraph}
 use Rattle.graph_core.specs.Wiring.{IsFree, IsOpen}
 use Rattle.graph_core.proofs.Options.{some_there, answer_cases}

@@ -7,8 +7,8 @@ use Rattle.std.proofs.lemmas.Slice.Eq.{bytes_eq-Decides}
 use Rattle.port_types.specs.declared.side.Side.{Side}
 use Rattle.port_types.specs.declared.side.Side.TheVariants.{Ins, Outs}
 use Rattle.graph_core.specs.declared.place.PortAt.{PortAt}
-use Rattle.graph_core.specs.Name.{Port, port_cmp}
-use Rattle.graph_core.specs.NamedGraph.{NamedGraph, is_wired}
+use Rattle.components.specs.Name.{Port, port_cmp}
+use Rattle.components.specs.NamedGraph.{NamedGraph, is_wired}
 use Rattle.graph_core.specs.GraphValue.{GraphValue, node_at, feeds, named_graph, port_named, IsGraph}
 use Rattle.graph_core.specs.Wiring.{IsFree, is_taken}
 use Rattle.graph_core.proofs.Options.{some_there, answer_cases}

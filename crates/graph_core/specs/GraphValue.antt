@@ -5,14 +5,14 @@ use Rattle.std.specs.List.{list_any}
 use Rattle.std.specs.FinMap as map
 use Rattle.port_types.specs.declared.side.Side.{Side}
 use Rattle.port_types.specs.declared.side.Side.TheVariants.{Ins, Outs}
-use Rattle.graph_core.specs.declared.node.Node.{Node}
+use Rattle.components.specs.declared.node.Node.{Node}
 use Rattle.graph_core.specs.declared.place.NodeId.{NodeId}
 use Rattle.graph_core.specs.declared.place.PortAt.{PortAt}
 use Rattle.graph_core.specs.Place.{index_of, id_of, place_cmp}
-use Rattle.graph_core.specs.Name.{Name, Port, port_get}
-use Rattle.graph_core.specs.Kind.{Shape, ports}
-use Rattle.graph_core.specs.Node.{NodeOk, Body, body_of}
-use Rattle.graph_core.specs.NamedGraph.{NamedGraph}
+use Rattle.components.specs.Name.{Name, Port, port_get}
+use Rattle.components.specs.Kind.{Shape, ports}
+use Rattle.components.specs.Node.{NodeOk, Body, body_of}
+use Rattle.components.specs.NamedGraph.{NamedGraph}
 
 -- by its input, the output of each wire
 abbrev pub Feeders : Type 0

@@ -3,10 +3,10 @@ use Rattle.std.specs.Prelude.{◌≡◌, ◌↔◌, ℕ, refl, List, Option, Som
 use Rattle.std.specs.Coded.{Coded, code_by, coded×, coded_list, coded_option}
 use Rattle.std.specs.FinMap as map
 use Rattle.graph_core.specs.declared.names.Names.{Names}
-use Rattle.graph_core.specs.declared.node.Node.{Node}
+use Rattle.components.specs.declared.node.Node.{Node}
 use Rattle.graph_core.specs.declared.place.NodeId.{NodeId}
 use Rattle.graph_core.specs.declared.place.PortAt.{PortAt}
-use Rattle.graph_core.specs.contracts.node.Node as node
+use Rattle.components.specs.contracts.node.Node as node
 use Rattle.graph_core.specs.contracts.place.PortAt as place
 use Rattle.graph_core.specs.Place.{index_of, place_cmp}
 use Rattle.graph_core.specs.Names.{id_under}

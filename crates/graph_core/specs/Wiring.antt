@@ -8,7 +8,7 @@ use Rattle.graph_core.specs.declared.graph.AddWire.{AddWire}
 use Rattle.graph_core.specs.declared.graph.AddWire.TheVariants.{UnknownPort, PortTaken, ShapeDiffers, NoMemory}
 use Rattle.graph_core.specs.declared.graph.PortOpen.{PortOpen}
 use Rattle.graph_core.specs.Place.{index_of}
-use Rattle.graph_core.specs.Kind.{Shape}
+use Rattle.components.specs.Kind.{Shape}
 use Rattle.graph_core.specs.GraphValue.{GraphValue, shape_at, feeds}
 
 -- one of the two ports stands on a wire already

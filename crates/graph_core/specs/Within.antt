@@ -1,11 +1,11 @@
 -- What stands in two graphs by names.
 use Rattle.std.specs.Prelude.{◌≡◌, ℕ, Some, IsSome}
 use Rattle.std.specs.FinMap as map
-use Rattle.graph_core.specs.declared.node.Node.{Node}
-use Rattle.graph_core.specs.Name.{Name, Port, port_get}
-use Rattle.graph_core.specs.Kind.{ins}
-use Rattle.graph_core.specs.Node.{Body, body_of}
-use Rattle.graph_core.specs.NamedGraph.{NamedGraph}
+use Rattle.components.specs.declared.node.Node.{Node}
+use Rattle.components.specs.Name.{Name, Port, port_get}
+use Rattle.components.specs.Kind.{ins}
+use Rattle.components.specs.Node.{Body, body_of}
+use Rattle.components.specs.NamedGraph.{NamedGraph}
 
 -- what feeds an input of the first graph feeds an input of the second
 abbrev pub IsFedIn : NamedGraph → Port → NamedGraph → Port → Type 0

@@ -1,11 +1,11 @@
 ghost use Rattle.std.specs.Prelude.{◌≡◌, ◌≢◌, ◌↔◌, ◌⊎◌, ◌<◌, ◌||◌, false, [], ◌∷◌, length, map, Some, None, Ok, Err, IsTrue, IsSome, IsNone, IsOk, IfSome, IfNone, IfOk, IfErr, OnOk, OnErr, OnSome, IsOkUnless, is_some, MatchOption, MatchResult};
 ghost use Rattle.std.specs.Option.{option_copied, option_map};
 ghost use Rattle.std.specs.FinMap as map_of;
-ghost use Rattle.graph_core.specs.Name.{IsName, Port};
+ghost use Rattle.components.specs.Name.{IsName, Port};
 ghost use Rattle.graph_core.specs.Place.{index_of, id_of};
-ghost use Rattle.graph_core.specs.Kind.{KindOk};
-ghost use Rattle.graph_core.specs.Node.{NodeOk, body_of};
-ghost use Rattle.graph_core.specs.NamedGraph.{CanWire, IsTyped, IsWire, is_wired, no_graph, with_node, with_wire, without_node};
+ghost use Rattle.components.specs.Kind.{KindOk};
+ghost use Rattle.components.specs.Node.{NodeOk, body_of};
+ghost use Rattle.components.specs.NamedGraph.{CanWire, IsTyped, IsWire, is_wired, no_graph, with_node, with_wire, without_node};
 ghost use Rattle.graph_core.specs.GraphValue.{AreInOrder, named_graph, node_at, next_id, port_named, shape_at, HasName, IsGraph, with_slot, with_feeder, without_id};
 ghost use Rattle.graph_core.specs.Wiring.{wire_fault, is_taken, IsWireFault, IsFree, IsOpen, IsFirstOpen};
 ghost use Rattle.graph_core.specs.OpenPorts.{IsClosed, IsFirstOpenAt, AreWired, IsFirstFree};

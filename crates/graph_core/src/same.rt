@@ -1,9 +1,9 @@
 //! Whether two graphs are the same by names, whatever their ids.
 ghost use Rattle.std.specs.Prelude.{◌≡◌, ◌≢◌, ◌↔◌, ◌≤◌, ℕ, IsTrue, IsSome, IfNone, IfSome, Some, All, AllPairs, Contains};
 ghost use Rattle.std.specs.FinMap as map_of;
-ghost use Rattle.graph_core.specs.declared.node.Node.{Node};
-ghost use Rattle.graph_core.specs.Name.{name_cmp};
-ghost use Rattle.graph_core.specs.Node.{NodeOk, body_of};
+ghost use Rattle.components.specs.declared.node.Node.{Node};
+ghost use Rattle.components.specs.Name.{name_cmp};
+ghost use Rattle.components.specs.Node.{NodeOk, body_of};
 ghost use Rattle.graph_core.specs.GraphValue.{named_graph, node_at, port_named, HasName};
 ghost use Rattle.graph_core.specs.OpenPorts.{port_at};
 ghost use Rattle.graph_core.specs.Within.{IsFedIn, IsWithin, StandsIn};

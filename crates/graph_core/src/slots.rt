@@ -3,7 +3,7 @@ ghost use Rattle.std.specs.Prelude.{◌≡◌, ◌++◌, ◌∷◌, [], IfOk, On
 ghost use Rattle.std.specs.Option.{option_copied, option_map};
 ghost use Rattle.graph_core.specs.GraphValue.{flat, named, named_nodes};
 ghost use Rattle.graph_core.specs.Inside.{AreNamedApart, AreListed};
-ghost use Rattle.graph_core.specs.Name.{name_cmp};
+ghost use Rattle.components.specs.Name.{name_cmp};
 ghost use Rattle.graph_core.specs.Names.{id_under};
 ghost use Rattle.graph_core.specs.Place.{index_of, id_of};
 ghost use Rattle.std.specs.FinMap as map_of;

@@ -1,5 +1,5 @@
 //! The worked rows of the table of components, and calls that take memory.
-ghost use Rattle.graph_core.specs.Kind.{KindOk};
+ghost use Rattle.components.specs.Kind.{KindOk};
 
 use crate::port_shapes::has_port;
 use crate::{

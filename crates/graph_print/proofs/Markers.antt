@@ -8,10 +8,10 @@ use Rattle.op_table.specs.declared.op.Op.TheVariants.{Select}
 use Rattle.port_types.specs.declared.side.Side.{Side}
 use Rattle.port_types.specs.declared.side.Side.TheVariants.{Ins, Outs}
 use Rattle.port_types.specs.PortGrammar.{is_marker_or_none, are_marked}
-use Rattle.graph_core.specs.declared.kind.Kind.{Kind}
-use Rattle.graph_core.specs.declared.kind.Kind.TheVariants.{Operator, Mux, Branch, CtrlMerge}
-use Rattle.graph_core.specs.Kind.{Shape}
-use Rattle.graph_core.specs.Name.{port_get}
+use Rattle.components.specs.declared.kind.Kind.{Kind}
+use Rattle.components.specs.declared.kind.Kind.TheVariants.{Operator, Mux, Branch, CtrlMerge}
+use Rattle.components.specs.Kind.{Shape}
+use Rattle.components.specs.Name.{port_get}
 use Rattle.graph_print.specs.CanonicalText.{PrintedPort, condition, yes, no, marker, operand_marker, marked_from}
 
 either : (b : Bool) (x y : Option ℕ) → is_marker_or_none x ≡ true → is_marker_or_none y ≡ true → is_marker_or_none (if b then x else y) ≡ true

@@ -4,7 +4,7 @@ use Rattle.std.specs.Cmp.{IsTotalOrder, then_total, on_total, nat_cmp_total}
 use Rattle.std.specs.Cmp.Lexicographic.{nat_list_cmp_total}
 use Rattle.std.specs.Ordering.{ordering_then, nat_cmp}
 use Rattle.std.specs.FinMap.{IsAntisymmetric, nat_cmp-IsAntisymmetric, slice_cmp-IsAntisymmetric}
-use Rattle.graph_core.specs.Name.{name_cmp, port_cmp}
+use Rattle.components.specs.Name.{name_cmp, port_cmp}
 
 pub name_total : IsTotalOrder name_cmp
 name_total = nat_list_cmp_total

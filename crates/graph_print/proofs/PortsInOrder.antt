@@ -1,6 +1,6 @@
 -- The ports of a side, one after the other.
 use Rattle.std.proofs.Common.{◌≡◌, ℕ, zero, suc, ◌-◌, ◌≤◌, List, [], ◌∷◌, ◌++◌, length, take, Some, None, IsSome, refl, ap, arith}
-use Rattle.graph_core.specs.Name.{port_get}
+use Rattle.components.specs.Name.{port_get}
 
 -- a port whose number is within the side is there
 pub port_get-within : {A : Type 0} (xs : List A) (number : ℕ) → 1 ≤ number → number ≤ length xs → IsSome (port_get xs number)

@@ -5,10 +5,10 @@ use Rattle.std.specs.Ordering.{ordering_then}
 use Rattle.std.specs.Option.{option_or}
 use Rattle.std.specs.FinMap as map
 use Rattle.std.specs.FinMap.Entries.{find, is_sorted, below_all, same_entries}
-use Rattle.graph_core.specs.Name.{Name, Port, name_cmp, port_cmp, port_get}
-use Rattle.graph_core.specs.Kind.{Shape, ins}
-use Rattle.graph_core.specs.Node.{Body}
-use Rattle.graph_core.specs.NamedGraph.{NamedGraph, IsWire}
+use Rattle.components.specs.Name.{Name, Port, name_cmp, port_cmp, port_get}
+use Rattle.components.specs.Kind.{Shape, ins}
+use Rattle.components.specs.Node.{Body}
+use Rattle.components.specs.NamedGraph.{NamedGraph, IsWire}
 use Rattle.graph_print.specs.PrintedWires.{wire_of, wires_from, wires_into}
 use Rattle.graph_print.proofs.Orders.{name_total, name_same, port_total, port_same}
 use Rattle.graph_print.proofs.EntryLists as lists

@@ -2,9 +2,9 @@
 use Rattle.std.proofs.Common.{◌≡◌, ◌∙◌, ℕ, zero, suc, ◌+◌, ◌-◌, ◌≤◌, List, [], ◌∷◌, ◌++◌, length, take, sym, ap, arith, IsSome}
 use Rattle.std.proofs.lemmas.List.{append-nil, append_assoc}
 use Rattle.std.specs.FinMap as map
-use Rattle.graph_core.specs.Name.{Name, Port, port_get}
-use Rattle.graph_core.specs.Kind.{Shape}
-use Rattle.graph_core.specs.NamedGraph.{NamedGraph}
+use Rattle.components.specs.Name.{Name, Port, port_get}
+use Rattle.components.specs.Kind.{Shape}
+use Rattle.components.specs.NamedGraph.{NamedGraph}
 use Rattle.graph_print.specs.PrintedWires.{wire_of, wires_from}
 use Rattle.graph_print.proofs.PortsInOrder.{port_get-within}
 

@@ -14,12 +14,12 @@ use Rattle.dot_text.specs.Printing.{printed}
 use Rattle.dot_text.specs.declared.doc.Doc.{Doc}
 use Rattle.dot_text.specs.declared.doc.DocNode.{DocNode}
 use Rattle.dot_text.specs.declared.doc.DocEdge.{DocEdge}
-use Rattle.graph_core.specs.declared.kind.Kind.{Kind}
-use Rattle.graph_core.specs.declared.kind.Kind.TheVariants.{Entry, Exit, Buffer, Fork, Join, Split, Operator, Constant, Source0, Sink0, Mux, Branch, Merge, CtrlMerge, Init, Tagger}
-use Rattle.graph_core.specs.Name.{Name, Port}
-use Rattle.graph_core.specs.Kind.{Shape, ports}
-use Rattle.graph_core.specs.Node.{Body}
-use Rattle.graph_core.specs.NamedGraph.{NamedGraph}
+use Rattle.components.specs.declared.kind.Kind.{Kind}
+use Rattle.components.specs.declared.kind.Kind.TheVariants.{Entry, Exit, Buffer, Fork, Join, Split, Operator, Constant, Source0, Sink0, Mux, Branch, Merge, CtrlMerge, Init, Tagger}
+use Rattle.components.specs.Name.{Name, Port}
+use Rattle.components.specs.Kind.{Shape, ports}
+use Rattle.components.specs.Node.{Body}
+use Rattle.components.specs.NamedGraph.{NamedGraph}
 
 -- a port with its marker, if it has one
 abbrev pub PrintedPort : Type 0

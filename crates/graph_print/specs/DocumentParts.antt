@@ -3,9 +3,9 @@ use Rattle.std.specs.Prelude.{List, [], ◌∷◌, map, Option, Some, None}
 use Rattle.dot_text.specs.declared.doc.DocNode.{DocNode}
 use Rattle.dot_text.specs.declared.doc.DocEdge.{DocEdge}
 use Rattle.graph_core.specs.declared.place.NodeId.{NodeId}
-use Rattle.graph_core.specs.Name.{Name}
-use Rattle.graph_core.specs.Node.{Body}
-use Rattle.graph_core.specs.NamedGraph.{NamedGraph}
+use Rattle.components.specs.Name.{Name}
+use Rattle.components.specs.Node.{Body}
+use Rattle.components.specs.NamedGraph.{NamedGraph}
 use Rattle.graph_core.specs.GraphValue.{GraphValue, named_graph, named_at}
 use Rattle.graph_print.specs.CanonicalText.{node_entry, edge_entry}
 use Rattle.graph_print.specs.PrintedWires.{wires_into}

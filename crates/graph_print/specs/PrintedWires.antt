@@ -1,10 +1,10 @@
 -- The wires of a graph as the printer finds them: for each node by name, those into its inputs by number.
 use Rattle.std.specs.Prelude.{ℕ, ◌+◌, List, [], ◌∷◌, ◌++◌, Option, Some, None}
 use Rattle.std.specs.FinMap as map
-use Rattle.graph_core.specs.Name.{Name, Port}
-use Rattle.graph_core.specs.Kind.{Shape, ins}
-use Rattle.graph_core.specs.Node.{Body}
-use Rattle.graph_core.specs.NamedGraph.{NamedGraph}
+use Rattle.components.specs.Name.{Name, Port}
+use Rattle.components.specs.Kind.{Shape, ins}
+use Rattle.components.specs.Node.{Body}
+use Rattle.components.specs.NamedGraph.{NamedGraph}
 
 -- the wire into a port, where it stands on one
 abbrev pub wire_of : Port → Option Port → List (Port × Port)

@@ -4,7 +4,7 @@
 ghost use Rattle.std.specs.Prelude.{◌≡◌, ◌++◌, OnOk, IfOk, Some, map};
 ghost use Rattle.std.specs.List.{flat_map};
 ghost use Rattle.std.specs.FinMap as map_of;
-ghost use Rattle.graph_core.specs.Node.{NodeOk};
+ghost use Rattle.components.specs.Node.{NodeOk};
 ghost use Rattle.graph_core.specs.GraphValue.{named_graph, node_at, named, port_named};
 ghost use Rattle.graph_print.specs.CanonicalText.{canonical_document, edge_entry};
 ghost use Rattle.graph_print.specs.PrintedWires.{wire_of, wires_into};
@@ -13,7 +13,8 @@ ghost use Rattle.graph_print.specs.DocumentParts.{node_entries_at, edge_entries_
 use crate::edge_entry::edge_entry;
 use crate::node_entry::node_entry;
 use dot_text::{Doc, DocEdge, DocNode};
-use graph_core::{Graph, Node, NodeId, PortAt, inputs};
+use components::{Node, inputs};
+use graph_core::{Graph, NodeId, PortAt};
 use port_types::{Items, NoMemory};
 use std::alloc::Global;
 

@@ -2,10 +2,10 @@
 
 ghost use Rattle.std.specs.Prelude.{◌≡◌, ◌++◌, OnOk};
 ghost use Rattle.std.specs.FinMap.{entries, from_entries};
-ghost use Rattle.graph_core.specs.Name.{name_cmp};
-ghost use Rattle.graph_core.specs.Node.{KeptOk};
+ghost use Rattle.components.specs.Name.{name_cmp};
+ghost use Rattle.components.specs.Node.{KeptOk};
 
-use graph_core::{Kind, kept_by_key};
+use components::{Kind, kept_by_key};
 use port_types::{NoMemory, Text, copy_pair};
 use std::alloc::Global;
 

@@ -5,7 +5,7 @@ ghost use Rattle.std.specs.Fmt.{decimal};
 ghost use Rattle.graph_print.specs.CanonicalText.{kind_word, own_pairs, marker, operand_marker, hexadecimal, mark_pairs};
 
 use crate::texts::{push_pair, text_from};
-use graph_core::Kind;
+use components::Kind;
 use op_table::{Op, op_name};
 use port_types::{NoMemory, Side, Text};
 use std::alloc::Global;

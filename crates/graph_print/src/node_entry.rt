@@ -1,7 +1,7 @@
 //! The statement of a node. The only error of each call is want of memory.
 
 ghost use Rattle.std.specs.Prelude.{◌≡◌, IfOk};
-ghost use Rattle.graph_core.specs.Node.{NodeOk, body_of};
+ghost use Rattle.components.specs.Node.{NodeOk, body_of};
 ghost use Rattle.graph_core.specs.GraphValue.{named};
 ghost use Rattle.graph_print.specs.CanonicalText.{pairs_of, node_entry};
 
@@ -10,7 +10,7 @@ use crate::kinds::{kind_word, push_own};
 use crate::ports::push_side;
 use crate::texts::{push_pair, text_from};
 use dot_text::DocNode;
-use graph_core::Node;
+use components::Node;
 use port_types::{Items, NoMemory, Side, Text};
 use std::alloc::Global;
 

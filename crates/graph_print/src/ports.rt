@@ -2,12 +2,12 @@
 
 ghost use Rattle.std.specs.Prelude.{◌≡◌, ◌++◌, IfOk, IsTrue, OnOk};
 ghost use Rattle.port_types.specs.PortGrammar.{are_marked};
-ghost use Rattle.graph_core.specs.Kind.{KindOk};
+ghost use Rattle.components.specs.Kind.{KindOk};
 ghost use Rattle.graph_print.specs.CanonicalText.{side_pairs, marked_ports};
 
 use crate::kinds::marker;
 use crate::texts::push_pair;
-use graph_core::{Kind, port_count, port_shape};
+use components::{Kind, port_count, port_shape};
 use port_types::{NoMemory, Port, Side, Text, print_ports};
 use std::alloc::Global;
 

@@ -1,9 +1,10 @@
 //! The texts of graphs.
 ghost use Rattle.std.specs.Prelude.{IfOk};
-ghost use Rattle.graph_core.specs.Node.{KeptOk};
+ghost use Rattle.components.specs.Node.{KeptOk};
 
 use crate::text_of;
-use graph_core::{Graph, Kind, Node, PortAt, is_name, kept_by_key, kind_ok};
+use components::{Kind, Node, is_name, kept_by_key, kind_ok};
+use graph_core::{Graph, PortAt};
 use op_table::Op;
 use port_types::{Items, Shape, Text, copy_pair};
 use std::alloc::Global;

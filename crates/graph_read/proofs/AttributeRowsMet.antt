@@ -13,9 +13,9 @@ use Rattle.op_table.specs.Laws.{WidthsAreTested}
 use Rattle.port_types.specs.Shape.{IsShape}
 use Rattle.port_types.specs.Numeral.{numeral_value}
 use Rattle.port_types.specs.Tag.{tag_width}
-use Rattle.graph_core.specs.declared.kind.Kind.{Kind}
-use Rattle.graph_core.specs.declared.kind.Kind as kind
-use Rattle.graph_core.specs.Kind.{Shape, field, tagged}
+use Rattle.components.specs.declared.kind.Kind.{Kind}
+use Rattle.components.specs.declared.kind.Kind as kind
+use Rattle.components.specs.Kind.{Shape, field, tagged}
 use Rattle.graph_read.specs.declared.component.Component.{Component}
 use Rattle.graph_read.specs.declared.component.Component as component
 use Rattle.graph_read.specs.declared.fault.GraphFaultKind.{GraphFaultKind}

@@ -2,9 +2,9 @@
 use Rattle.std.proofs.Common.{◌≡◌, List, [], Option, Some, None, Ok, Err, refl, sym, ap, ◌∙◌}
 use Rattle.std.specs.FinMap as map
 use Rattle.dot_text.specs.declared.doc.Doc.{Doc}
-use Rattle.graph_core.specs.Name.{Name, name_cmp}
-use Rattle.graph_core.specs.Node.{Body}
-use Rattle.graph_core.specs.NamedGraph.{NamedGraph}
+use Rattle.components.specs.Name.{Name, name_cmp}
+use Rattle.components.specs.Node.{Body}
+use Rattle.components.specs.NamedGraph.{NamedGraph}
 use Rattle.graph_read.specs.declared.fault.GraphRefusal.{GraphRefusal}
 use Rattle.graph_read.specs.GraphReading.{GraphReading, NodesReading, nodes_reading, edges_reading, first_open, graph_of_nodes, unless, closed, wired, graph_reading}
 use Rattle.graph_read.specs.GraphLaws.{ReadHasAllowedNames}

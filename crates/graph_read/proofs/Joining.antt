@@ -4,16 +4,16 @@ use Rattle.std.specs.Prelude.{bytes_eq}
 use Rattle.std.proofs.lemmas.Option.{none-some}
 use Rattle.port_types.specs.declared.side.Side.{Side}
 use Rattle.port_types.specs.declared.side.Side.TheVariants.{Ins, Outs}
-use Rattle.graph_core.specs.declared.node.Node.{Node}
+use Rattle.components.specs.declared.node.Node.{Node}
 use Rattle.graph_core.specs.declared.place.NodeId.{NodeId}
 use Rattle.graph_core.specs.declared.place.PortAt.{PortAt}
 use Rattle.dot_text.specs.declared.doc.DocEdge.{DocEdge}
 use Rattle.graph_core.specs.declared.graph.AddWire.{AddWire}
 use Rattle.graph_core.specs.declared.graph.AddWire.TheVariants as add_wire
-use Rattle.graph_core.specs.Kind.{Shape}
-use Rattle.graph_core.specs.Name.{Port}
-use Rattle.graph_core.specs.Node.{body_of}
-use Rattle.graph_core.specs.NamedGraph.{is_wired}
+use Rattle.components.specs.Kind.{Shape}
+use Rattle.components.specs.Name.{Port}
+use Rattle.components.specs.Node.{body_of}
+use Rattle.components.specs.NamedGraph.{is_wired}
 use Rattle.graph_core.specs.GraphValue.{GraphValue, node_at, name_of, shape_of, shape_at, named_graph, port_named}
 use Rattle.graph_core.specs.Wiring.{wire_fault, is_taken, fault_between}
 use Rattle.graph_read.specs.declared.fault.GraphFaultKind.{GraphFaultKind}

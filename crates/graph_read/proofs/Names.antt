@@ -7,7 +7,7 @@ use Rattle.std.proofs.lemmas.Bool.{leb-true, le-leb, and_parts, and_from, true�
 use Rattle.std.proofs.lemmas.Bool.Decides.{nat_tests}
 use Rattle.std.proofs.lemmas.List.Elements.{All-weaker}
 use Rattle.std.proofs.lemmas.List.Sums.{AllPass-from_list_all, list_all-from_AllPass}
-use Rattle.graph_core.specs.Name.{Name, IsName, IsNameByte}
+use Rattle.components.specs.Name.{Name, IsName, IsNameByte}
 use Rattle.graph_read.specs.NodeReading.{is_name, is_name_byte}
 
 byte_from : (byte : ℕ) → IsNameByte byte → is_name_byte byte ≡ true

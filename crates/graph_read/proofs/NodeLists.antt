@@ -8,10 +8,10 @@ use Rattle.std.proofs.lemmas.Bool.{cases_Bool, cond-false}
 use Rattle.std.proofs.lemmas.Option.{none-some}
 use Rattle.std.proofs.lemmas.List.{map-append, drop_more, take_more}
 use Rattle.dot_text.specs.declared.doc.DocNode.{DocNode}
-use Rattle.graph_core.specs.declared.node.Node.{Node}
-use Rattle.graph_core.specs.Name.{Name, name_cmp, IsName}
-use Rattle.graph_core.specs.Node.{Body, body_of}
-use Rattle.graph_core.specs.NamedGraph.{NamedGraph, HasAllowedNames, no_graph, with_node}
+use Rattle.components.specs.declared.node.Node.{Node}
+use Rattle.components.specs.Name.{Name, name_cmp, IsName}
+use Rattle.components.specs.Node.{Body, body_of}
+use Rattle.components.specs.NamedGraph.{NamedGraph, HasAllowedNames, no_graph, with_node}
 use Rattle.graph_core.specs.GraphValue.{GraphValue, flat, named_graph, named, named_nodes}
 use Rattle.graph_read.specs.NodeReading.{NodeReading, node_reading}
 use Rattle.graph_read.specs.GraphReading.{then_read, names_of, nodes_reading}

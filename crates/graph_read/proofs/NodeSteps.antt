@@ -7,8 +7,8 @@ use Rattle.std.specs.Ordering.{eq_by_cmp}
 use Rattle.std.proofs.lemmas.Bool.{le-leb, leb-true, false_from_ne_true}
 use Rattle.std.proofs.lemmas.Map.Text.{is_eq-slice_cmp}
 use Rattle.dot_text.specs.declared.doc.DocNode.{DocNode}
-use Rattle.graph_core.specs.Name.{Name, name_cmp}
-use Rattle.graph_core.specs.Node.{Body}
+use Rattle.components.specs.Name.{Name, name_cmp}
+use Rattle.components.specs.Node.{Body}
 use Rattle.graph_read.specs.declared.fault.GraphFaultKind.TheVariants.{NameTaken, TooMany}
 use Rattle.graph_read.specs.declared.fault.StatementFault.{StatementFault}
 use Rattle.graph_read.specs.declared.fault.StatementFault.TheVariants.{Refused, NoMemory}

@@ -5,14 +5,14 @@ use Rattle.std.proofs.lemmas.Bool.{cases_Bool, true≢false}
 use Rattle.std.proofs.lemmas.Option.{none-some, same_Some}
 use Rattle.port_types.specs.declared.side.Side.{Side}
 use Rattle.port_types.specs.declared.side.Side.TheVariants.{Ins, Outs}
-use Rattle.graph_core.specs.declared.node.Node.{Node}
+use Rattle.components.specs.declared.node.Node.{Node}
 use Rattle.graph_core.specs.declared.place.PortAt.{PortAt}
 use Rattle.graph_core.specs.declared.graph.PortOpen.{PortOpen}
 use Rattle.graph_core.specs.Place.{index_of, id_of}
-use Rattle.graph_core.specs.Kind.{Shape, outs, ports}
-use Rattle.graph_core.specs.Name.{Name, Port, port_get}
-use Rattle.graph_core.specs.Node.{Body}
-use Rattle.graph_core.specs.NamedGraph.{NamedGraph, is_wired}
+use Rattle.components.specs.Kind.{Shape, outs, ports}
+use Rattle.components.specs.Name.{Name, Port, port_get}
+use Rattle.components.specs.Node.{Body}
+use Rattle.components.specs.NamedGraph.{NamedGraph, is_wired}
 use Rattle.graph_core.specs.GraphValue.{GraphValue, node_at, flat, shape_of, name_of, named, named_nodes, named_graph, port_named}
 use Rattle.graph_core.specs.Wiring.{IsFree, IsOpen, IsFirstOpen, ComesBefore}
 use Rattle.graph_read.specs.declared.fault.GraphRefusal.{GraphRefusal}

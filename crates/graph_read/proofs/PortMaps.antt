@@ -10,8 +10,8 @@ use Rattle.std.proofs.lemmas.Bool.{cases_Bool, and_parts, and_from, or_right, eq
 use Rattle.std.proofs.lemmas.Option.{none-some, same_Some}
 use Rattle.std.proofs.lemmas.Slice.Eq.{bytes_eq-Decides}
 use Rattle.port_types.specs.declared.side.Side.TheVariants.{Outs}
-use Rattle.graph_core.specs.Name.{Port, port_cmp}
-use Rattle.graph_core.specs.NamedGraph.{NamedGraph, with_wire, is_wired}
+use Rattle.components.specs.Name.{Port, port_cmp}
+use Rattle.components.specs.NamedGraph.{NamedGraph, with_wire, is_wired}
 use Rattle.graph_read.proofs.Orders.{port_total, port_same}
 
 -- Wires by their inputs

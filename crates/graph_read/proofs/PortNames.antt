@@ -7,8 +7,8 @@ use Rattle.std.proofs.lemmas.List.{append_cancel_left}
 use Rattle.std.proofs.lemmas.Slice.Eq.{bytes_eq-Decides}
 use Rattle.port_types.specs.declared.side.Side.{Side}
 use Rattle.port_types.specs.PortText.{side_word, port_name}
-use Rattle.graph_core.specs.Kind.{Shape}
-use Rattle.graph_core.specs.Name.{port_get}
+use Rattle.components.specs.Kind.{Shape}
+use Rattle.components.specs.Name.{port_get}
 use Rattle.graph_read.specs.GraphReading.{named_in}
 use Rattle.graph_read.specs.GraphSteps.{IsPortThere}
 

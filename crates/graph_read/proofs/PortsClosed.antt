@@ -7,10 +7,10 @@ use Rattle.std.proofs.lemmas.List.Elements.{All-nil, All-cons, All-contains}
 use Rattle.std.proofs.lemmas.Option.{none-some}
 use Rattle.port_types.specs.declared.side.Side.{Side}
 use Rattle.port_types.specs.declared.side.Side.TheVariants.{Ins, Outs}
-use Rattle.graph_core.specs.Kind.{Shape, ports, ins, outs}
-use Rattle.graph_core.specs.Name.{Name, Port, port_get}
-use Rattle.graph_core.specs.Node.{Body}
-use Rattle.graph_core.specs.NamedGraph.{NamedGraph, is_wired}
+use Rattle.components.specs.Kind.{Shape, ports, ins, outs}
+use Rattle.components.specs.Name.{Name, Port, port_get}
+use Rattle.components.specs.Node.{Body}
+use Rattle.components.specs.NamedGraph.{NamedGraph, is_wired}
 use Rattle.graph_read.specs.declared.fault.GraphRefusal.{GraphRefusal}
 use Rattle.graph_read.specs.GraphReading.{first_free, open_port, open_refusal, first_open}
 use Rattle.graph_read.proofs.OpenPorts.{port_of, opened}

@@ -13,9 +13,9 @@ use Rattle.std.proofs.lemmas.Slice.Eq.{bytes_eq-Decides}
 use Rattle.port_types.specs.PortLaws.{ReadsPorts}
 use Rattle.dot_text.specs.declared.doc.DocNode.{DocNode}
 use Rattle.dot_text.specs.Texts.{NodeTexts}
-use Rattle.graph_core.specs.Kind.{KindOk}
-use Rattle.graph_core.specs.Name.{Name, name_cmp, IsName}
-use Rattle.graph_core.specs.Node.{Body}
+use Rattle.components.specs.Kind.{KindOk}
+use Rattle.components.specs.Name.{Name, name_cmp, IsName}
+use Rattle.components.specs.Node.{Body}
 use Rattle.graph_read.specs.NodeReading.{NodeReading, node_reading}
 use Rattle.graph_read.specs.GraphReading.{refusal, then_read, names_of, nodes_reading}
 use Rattle.graph_read.specs.Laws.{RowsAreMet}

@@ -3,9 +3,9 @@ use Rattle.std.proofs.Common.{◌≡◌, ◌≤◌, Some, sym, ap, subst, ◌∙
 use Rattle.std.specs.FinMap as map
 use Rattle.port_types.specs.PortLaws.{ReadsPorts}
 use Rattle.dot_text.specs.declared.doc.Doc.{Doc}
-use Rattle.graph_core.specs.Name.{Name, name_cmp}
-use Rattle.graph_core.specs.Node.{Body}
-use Rattle.graph_core.specs.NamedGraph.{NamedGraph, IsTyped}
+use Rattle.components.specs.Name.{Name, name_cmp}
+use Rattle.components.specs.Node.{Body}
+use Rattle.components.specs.NamedGraph.{NamedGraph, IsTyped}
 use Rattle.graph_read.specs.GraphReading.{graph_of_nodes}
 use Rattle.graph_read.specs.GraphLaws.{ReadIsTyped}
 use Rattle.graph_read.specs.Laws.{RowsAreMet}

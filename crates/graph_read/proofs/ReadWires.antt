@@ -10,10 +10,10 @@ use Rattle.port_types.specs.declared.side.Side.{Side}
 use Rattle.port_types.specs.declared.side.Side.TheVariants.{Ins, Outs}
 use Rattle.port_types.specs.PortText.{port_name}
 use Rattle.dot_text.specs.declared.doc.DocEdge.{DocEdge}
-use Rattle.graph_core.specs.Kind.{Shape, ports}
-use Rattle.graph_core.specs.Name.{Name, Port, port_cmp, port_get}
-use Rattle.graph_core.specs.Node.{Body}
-use Rattle.graph_core.specs.NamedGraph.{NamedGraph, IsWire, CanWire, with_wire, is_wired}
+use Rattle.components.specs.Kind.{Shape, ports}
+use Rattle.components.specs.Name.{Name, Port, port_cmp, port_get}
+use Rattle.components.specs.Node.{Body}
+use Rattle.components.specs.NamedGraph.{NamedGraph, IsWire, CanWire, with_wire, is_wired}
 use Rattle.graph_read.specs.declared.fault.GraphFaultKind.{GraphFaultKind}
 use Rattle.graph_read.specs.declared.fault.GraphFaultKind.TheVariants.{UnknownNode, UnknownPort, PortTaken, ShapeDiffers}
 use Rattle.graph_read.specs.Attributes.{last_value}

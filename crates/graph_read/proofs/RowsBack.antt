@@ -10,9 +10,9 @@ use Rattle.op_table.specs.Operator.{graph_word}
 use Rattle.op_table.specs.Table.{is_typed_op}
 use Rattle.op_table.specs.Laws.{NamesAreFound, WidthsAreTested}
 use Rattle.port_types.specs.Tag.{tag_width}
-use Rattle.graph_core.specs.declared.kind.Kind.{Kind}
-use Rattle.graph_core.specs.declared.kind.Kind.TheVariants.{Entry, Exit, Buffer, Fork, Join, Split, Operator, Constant, Source0, Sink0, Mux, Branch, Merge, CtrlMerge, Init, Tagger}
-use Rattle.graph_core.specs.Kind.{Shape, KindOk, field, tagged}
+use Rattle.components.specs.declared.kind.Kind.{Kind}
+use Rattle.components.specs.declared.kind.Kind.TheVariants.{Entry, Exit, Buffer, Fork, Join, Split, Operator, Constant, Source0, Sink0, Mux, Branch, Merge, CtrlMerge, Init, Tagger}
+use Rattle.components.specs.Kind.{Shape, KindOk, field, tagged}
 use Rattle.graph_read.specs.declared.component.Component.{Component}
 use Rattle.graph_read.specs.Attributes.{Pair, last_value, value_of, tags_of}
 use Rattle.graph_read.specs.Rows.{where_ports, entry_at, exit_at, all_are, are_fields, fork_at, merge_at, ctrl_merge_at, operator_named, operator_typed, operator_at, constant_of, constant_with, init_with, init_marked, start_of, mark_of, tagger_of, tagger_with, row_reading}

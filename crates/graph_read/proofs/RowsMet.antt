@@ -6,9 +6,9 @@ use Rattle.std.proofs.lemmas.Bool.{leb-true, and_parts}
 use Rattle.std.proofs.lemmas.List.Elements.{All-head, All-tail}
 use Rattle.std.proofs.lemmas.Slice.Eq.{bytes_eq-Decides}
 use Rattle.port_types.specs.Shape.{IsShape}
-use Rattle.graph_core.specs.declared.kind.Kind.{Kind}
-use Rattle.graph_core.specs.declared.kind.Kind as kind
-use Rattle.graph_core.specs.Kind.{Shape, field, AreParts}
+use Rattle.components.specs.declared.kind.Kind.{Kind}
+use Rattle.components.specs.declared.kind.Kind as kind
+use Rattle.components.specs.Kind.{Shape, field, AreParts}
 use Rattle.graph_read.specs.declared.component.Component.{Component}
 use Rattle.graph_read.specs.declared.component.Component as component
 use Rattle.graph_read.specs.declared.fault.GraphFaultKind.{GraphFaultKind}

@@ -1,8 +1,8 @@
 -- What a call that reads may answer: what is read, or want of memory.
 use Rattle.std.specs.Prelude.{◌≡◌, Result, Ok, Err}
-use Rattle.graph_core.specs.declared.node.Node.{Node}
-use Rattle.graph_core.specs.Name.{Name}
-use Rattle.graph_core.specs.Node.{NodeOk, body_of}
+use Rattle.components.specs.declared.node.Node.{Node}
+use Rattle.components.specs.Name.{Name}
+use Rattle.components.specs.Node.{NodeOk, body_of}
 use Rattle.graph_read.specs.declared.fault.GraphFaultKind.{GraphFaultKind}
 use Rattle.graph_read.specs.declared.fault.StatementFault.{StatementFault}
 use Rattle.graph_read.specs.declared.fault.StatementFault.TheVariants.{Refused, NoMemory}

@@ -4,7 +4,7 @@ use Rattle.std.specs.Str.{IsUtf8}
 use Rattle.std.specs.FinMap as map
 use Rattle.dot_text.specs.declared.doc.Doc.{Doc}
 use Rattle.dot_text.specs.Texts.{DocTexts}
-use Rattle.graph_core.specs.NamedGraph.{NamedGraph, IsTyped, HasAllowedNames}
+use Rattle.components.specs.NamedGraph.{NamedGraph, IsTyped, HasAllowedNames}
 use Rattle.graph_read.specs.GraphReading.{graph_reading}
 use Rattle.graph_read.specs.Pure.{has_pure}
 

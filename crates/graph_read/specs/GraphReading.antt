@@ -8,10 +8,10 @@ use Rattle.port_types.specs.PortText.{port_name}
 use Rattle.dot_text.specs.declared.doc.Doc.{Doc}
 use Rattle.dot_text.specs.declared.doc.DocNode.{DocNode}
 use Rattle.dot_text.specs.declared.doc.DocEdge.{DocEdge}
-use Rattle.graph_core.specs.Kind.{Shape, ins, outs, ports}
-use Rattle.graph_core.specs.Name.{Name, Port}
-use Rattle.graph_core.specs.Node.{Body}
-use Rattle.graph_core.specs.NamedGraph.{NamedGraph, is_wired, with_wire}
+use Rattle.components.specs.Kind.{Shape, ins, outs, ports}
+use Rattle.components.specs.Name.{Name, Port}
+use Rattle.components.specs.Node.{Body}
+use Rattle.components.specs.NamedGraph.{NamedGraph, is_wired, with_wire}
 use Rattle.graph_read.specs.declared.fault.GraphFaultKind.{GraphFaultKind}
 use Rattle.graph_read.specs.declared.fault.GraphFaultKind.TheVariants.{UnknownNode, UnknownPort, PortTaken, ShapeDiffers, PortOpen}
 use Rattle.graph_read.specs.declared.fault.GraphRefusal.{GraphRefusal}

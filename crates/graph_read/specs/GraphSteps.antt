@@ -6,13 +6,13 @@ use Rattle.port_types.specs.declared.side.Side.{Side}
 use Rattle.port_types.specs.declared.side.Side.TheVariants.{Ins, Outs}
 use Rattle.dot_text.specs.declared.doc.DocNode.{DocNode}
 use Rattle.dot_text.specs.declared.doc.DocEdge.{DocEdge}
-use Rattle.graph_core.specs.declared.node.Node.{Node}
+use Rattle.components.specs.declared.node.Node.{Node}
 use Rattle.graph_core.specs.declared.place.NodeId.{NodeId}
 use Rattle.graph_core.specs.declared.place.PortAt.{PortAt}
-use Rattle.graph_core.specs.Kind.{Shape}
-use Rattle.graph_core.specs.Name.{Name, port_get}
-use Rattle.graph_core.specs.Node.{NodeOk, Body, body_of}
-use Rattle.graph_core.specs.NamedGraph.{NamedGraph, with_node, with_wire}
+use Rattle.components.specs.Kind.{Shape}
+use Rattle.components.specs.Name.{Name, port_get}
+use Rattle.components.specs.Node.{NodeOk, Body, body_of}
+use Rattle.components.specs.NamedGraph.{NamedGraph, with_node, with_wire}
 use Rattle.graph_core.specs.GraphValue.{GraphValue, node_at, shape_at, named_graph, port_named, with_slot}
 use Rattle.graph_read.specs.declared.fault.GraphFault.{GraphFault}
 use Rattle.graph_read.specs.declared.fault.GraphFault.TheVariants as graph_fault

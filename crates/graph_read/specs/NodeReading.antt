@@ -8,9 +8,9 @@ use Rattle.port_types.specs.declared.side.Side.TheVariants.{Ins, Outs}
 use Rattle.port_types.specs.PortText.{side_word}
 use Rattle.port_types.specs.PortGrammar.{reading}
 use Rattle.dot_text.specs.declared.doc.DocNode.{DocNode}
-use Rattle.graph_core.specs.Kind.{Shape}
-use Rattle.graph_core.specs.Name.{Name}
-use Rattle.graph_core.specs.Node.{Body, kept_of}
+use Rattle.components.specs.Kind.{Shape}
+use Rattle.components.specs.Name.{Name}
+use Rattle.components.specs.Node.{Body, kept_of}
 use Rattle.graph_read.specs.declared.component.Component.{Component}
 use Rattle.graph_read.specs.declared.fault.GraphFaultKind.{GraphFaultKind}
 use Rattle.graph_read.specs.declared.fault.GraphFaultKind.TheVariants.{BadName, NameTaken, NoKind, UnknownKind, MemoryNode, MemoryPort, BadPorts, TooMany}

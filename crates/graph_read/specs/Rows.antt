@@ -5,9 +5,9 @@ use Rattle.std.specs.Option.{option_or}
 use Rattle.op_table.specs.declared.op.Op.{Op}
 use Rattle.op_table.specs.Table.{op_named, is_typed_op}
 use Rattle.port_types.specs.Tag.{tag_width}
-use Rattle.graph_core.specs.declared.kind.Kind.{Kind}
-use Rattle.graph_core.specs.declared.kind.Kind as kind
-use Rattle.graph_core.specs.Kind.{Shape, field}
+use Rattle.components.specs.declared.kind.Kind.{Kind}
+use Rattle.components.specs.declared.kind.Kind as kind
+use Rattle.components.specs.Kind.{Shape, field}
 use Rattle.graph_read.specs.declared.component.Component.{Component}
 use Rattle.graph_read.specs.declared.component.Component.TheVariants.{Entry, Exit, Buffer, Fork, Join, Split, Operator, Constant, Source, Sink, Mux, Branch, Merge, CtrlMerge, Init, Tagger}
 use Rattle.graph_read.specs.declared.fault.GraphFaultKind.{GraphFaultKind}

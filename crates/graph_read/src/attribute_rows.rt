@@ -1,6 +1,6 @@
 //! The rows of the components with attributes of their own: the kind that ports of these shapes and the pairs of a node say.
 ghost use Rattle.std.specs.Prelude.{◌≡◌, Some, codes};
-ghost use Rattle.graph_core.specs.Kind.{Shape};
+ghost use Rattle.components.specs.Kind.{Shape};
 ghost use Rattle.graph_read.specs.Answers.{IsRead};
 ghost use Rattle.graph_read.specs.Attributes.{last_value};
 ghost use Rattle.graph_read.specs.Rows.{operator_at, operator_named, constant_at, constant_of, init_at, init_with, start_of, mark_of, tagger_at, tagger_of};
@@ -9,7 +9,7 @@ use crate::attributes::{last_value, tags_of, value_of};
 use crate::fault::GraphFaultKind::{BadOp, BadPorts, BadTags, BadValue};
 use crate::fault::StatementFault::{self, Refused};
 use crate::shapes::{are_fields, copy_of, is_bit, is_same, joined};
-use graph_core::Kind;
+use components::Kind;
 use op_table::{op_of, typed_op};
 use port_types::{Items, Shape, Text, tag_width};
 use std::alloc::Global;

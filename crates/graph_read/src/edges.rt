@@ -1,10 +1,10 @@
 //! The wires of edges.
 ghost use Rattle.std.specs.Prelude.{◌≡◌, None, Some, codes, IfOk, IfErr, MatchOption};
 ghost use Rattle.std.specs.FinMap as map_of;
-ghost use Rattle.graph_core.specs.Kind.{Shape, KindOk, ports};
+ghost use Rattle.components.specs.Kind.{Shape, KindOk, ports};
 ghost use Rattle.graph_core.specs.GraphValue.{named_graph, port_named, shape_at};
-ghost use Rattle.graph_core.specs.Name.{Name};
-ghost use Rattle.graph_core.specs.Node.{body_of};
+ghost use Rattle.components.specs.Name.{Name};
+ghost use Rattle.components.specs.Node.{body_of};
 ghost use Rattle.graph_read.specs.Refusals.{IsRefusal};
 ghost use Rattle.graph_read.specs.Attributes.{last_value};
 ghost use Rattle.graph_read.specs.GraphReading.{named_in, port_there, wire_between, edge_reading, edges_reading};
@@ -15,7 +15,8 @@ use crate::fault::GraphFaultKind::{PortTaken, ShapeDiffers, UnknownNode, Unknown
 use crate::fault::StatementFault::{self, Refused};
 use crate::fault::{GraphFault, refusal_at};
 use dot_text::DocEdge;
-use graph_core::{AddWire, Graph, Kind, NodeId, PortAt, port_count};
+use components::{Kind, port_count};
+use graph_core::{AddWire, Graph, NodeId, PortAt};
 use port_types::{Side, Text, read_port_name};
 use std::alloc::Global;
 

@@ -2,7 +2,7 @@
 ghost use Rattle.std.specs.Prelude.{◌≡◌, ◌≤◌, IfOk, IfErr, Ok};
 ghost use Rattle.std.specs.FinMap as map_of;
 ghost use Rattle.graph_core.specs.GraphValue.{named_graph};
-ghost use Rattle.graph_core.specs.NamedGraph.{IsTyped, HasAllowedNames};
+ghost use Rattle.components.specs.NamedGraph.{IsTyped, HasAllowedNames};
 ghost use Rattle.graph_read.specs.Refusals.{IsRefusal};
 ghost use Rattle.graph_read.specs.GraphReading.{graph_reading};
 ghost use Rattle.graph_read.specs.GraphSteps.{StandInOrder};

@@ -1,9 +1,9 @@
 //! The attributes that a node keeps.
 ghost use Rattle.std.specs.Prelude.{◌≡◌, IfOk};
 ghost use Rattle.std.specs.FinMap.{from_entries};
-ghost use Rattle.graph_core.specs.Node.{KeptOk, kept_of};
+ghost use Rattle.components.specs.Node.{KeptOk, kept_of};
 
-use graph_core::{Kind, kept_by_key};
+use components::{Kind, kept_by_key};
 use port_types::{Items, NoMemory, Text, copy_pair};
 use std::alloc::Global;
 

@@ -3,9 +3,9 @@
 //! For the layer above, in the order of the refusals: `has_allowed_name` tells `BadName`, the graph tells `NameTaken`, `read_node`
 //! gives the node or the kind's first refusal, and the place of the node tells `TooMany`.
 ghost use Rattle.std.specs.Prelude.{◌≡◌, ◌≤◌, length, map, All, IsTrue, IfOk, MatchResult};
-ghost use Rattle.graph_core.specs.Kind.{KindOk};
-ghost use Rattle.graph_core.specs.Name.{IsName};
-ghost use Rattle.graph_core.specs.Node.{NodeOk, body_of};
+ghost use Rattle.components.specs.Kind.{KindOk};
+ghost use Rattle.components.specs.Name.{IsName};
+ghost use Rattle.components.specs.Node.{NodeOk, body_of};
 ghost use Rattle.port_types.specs.PortGrammar.{reading};
 ghost use Rattle.port_types.specs.PortText.{side_word};
 ghost use Rattle.port_types.specs.Shape.{IsShape};
@@ -21,7 +21,7 @@ use crate::kept::kept_of;
 use crate::laws::rows_are_met;
 use crate::rows::kind_at;
 use dot_text::DocNode;
-use graph_core::{Kind, Node};
+use components::{Kind, Node};
 use port_types::{Items, Port, PortFault, Shape, Side, Text, read_ports, reads_ports};
 use std::alloc::Global;
 

@@ -2,8 +2,8 @@
 ghost use Rattle.std.specs.Prelude.{◌≡◌, ◌≤◌, IfOk, IfErr, None, Ok, [], length};
 ghost use Rattle.std.specs.FinMap as map_of;
 ghost use Rattle.graph_core.specs.GraphValue.{named_graph, named_nodes};
-ghost use Rattle.graph_core.specs.NamedGraph.{HasAllowedNames};
-ghost use Rattle.graph_core.specs.Name.{IsName};
+ghost use Rattle.components.specs.NamedGraph.{HasAllowedNames};
+ghost use Rattle.components.specs.Name.{IsName};
 ghost use Rattle.graph_read.specs.Answers.{IsNodeRead};
 ghost use Rattle.graph_read.specs.Refusals.{IsRefusal};
 ghost use Rattle.graph_read.specs.GraphReading.{names_of, nodes_reading, graph_of_nodes};
@@ -15,7 +15,8 @@ use crate::fault::StatementFault::{self, Refused};
 use crate::fault::{GraphFault, refusal_at};
 use crate::node::{has_allowed_name, read_node};
 use dot_text::DocNode;
-use graph_core::{AddNode, Graph, Node};
+use components::Node;
+use graph_core::{AddNode, Graph};
 use std::alloc::Global;
 
 /// The greatest number of nodes that are read.

@@ -2,7 +2,7 @@
 ghost use Rattle.std.specs.Prelude.{◌≡◌, ◌≤◌, ◌<◌, length, IsSome, None, IfOk, IfErr};
 ghost use Rattle.graph_core.specs.GraphValue.{named_graph, named_nodes, node_at};
 ghost use Rattle.graph_core.specs.Place.{index_of};
-ghost use Rattle.graph_core.specs.NamedGraph.{IsTyped};
+ghost use Rattle.components.specs.NamedGraph.{IsTyped};
 ghost use Rattle.graph_read.specs.GraphReading.{first_open};
 ghost use Rattle.graph_read.specs.Refusals.{IsFoundRefusal};
 

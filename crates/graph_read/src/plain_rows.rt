@@ -6,7 +6,7 @@ ghost use Rattle.graph_read.specs.Rows.{entry_at, exit_at, buffer_at, fork_at, j
 use crate::fault::GraphFaultKind::BadPorts;
 use crate::fault::StatementFault::{self, Refused};
 use crate::shapes::{all_are, copies_of, copy_of, is_bit, is_same, joined, tells_apart};
-use graph_core::Kind;
+use components::Kind;
 use port_types::Shape;
 use std::alloc::Global;
 

@@ -10,7 +10,7 @@ use crate::plain_rows::{
     branch_at, buffer_at, ctrl_merge_at, entry_at, exit_at, fork_at, join_at, merge_at, mux_at,
     sink_at, source_at, split_at,
 };
-use graph_core::Kind;
+use components::Kind;
 use port_types::{Shape, Text};
 use std::alloc::Global;
 

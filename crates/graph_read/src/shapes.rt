@@ -1,7 +1,7 @@
 //! The shapes of ports, compared and copied.
 ghost use Rattle.std.specs.Prelude.{◌≡◌, ◌≤◌, ◌^◌, nat_le, bytes_eq, MatchResult};
 ghost use Rattle.std.specs.List.{concat};
-ghost use Rattle.graph_core.specs.Kind.{field};
+ghost use Rattle.components.specs.Kind.{field};
 ghost use Rattle.graph_read.specs.Rows.{all_are, are_fields};
 
 use crate::fault::StatementFault;

@@ -8,7 +8,7 @@ use Rattle.gx_base.specs.Stream.{before, Gave, Rose}
 use Rattle.dot_text.specs.declared.doc.Doc.{Doc}
 use Rattle.dot_text.specs.Documents.{Stands}
 use Rattle.dot_text.specs.Laws.{OneDocument, OnePlace, NoPlaceInDocument, OneEndOfBlanks, OneUnclosed, NotBothSkips}
-use Rattle.graph_core.specs.NamedGraph.{NamedGraph}
+use Rattle.components.specs.NamedGraph.{NamedGraph}
 use Rattle.graph_read.specs.declared.fault.GraphRefusal.{GraphRefusal}
 use Rattle.graph_read.specs.GraphReading.{graph_reading}
 use Rattle.graph_read.specs.GraphLaws.{ReadHasNoPure}

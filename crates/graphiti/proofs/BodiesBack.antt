@@ -5,11 +5,11 @@ use Rattle.op_table.specs.Operator.{graph_word}
 use Rattle.port_types.specs.declared.side.Side.{Side}
 use Rattle.port_types.specs.declared.side.Side.TheVariants.{Ins, Outs}
 use Rattle.port_types.specs.PortLaws.{ReadsPorts, ReadsBack}
-use Rattle.graph_core.specs.declared.kind.Kind.{Kind}
-use Rattle.graph_core.specs.declared.kind.Kind.TheVariants.{Entry, Exit, Buffer, Fork, Join, Split, Operator, Constant, Source0, Sink0, Mux, Branch, Merge, CtrlMerge, Init, Tagger}
-use Rattle.graph_core.specs.Kind.{KindOk}
-use Rattle.graph_core.specs.Node.{Body, IsOwned, is_owned}
-use Rattle.graph_core.specs.Laws.{PortsAreShapes}
+use Rattle.components.specs.declared.kind.Kind.{Kind}
+use Rattle.components.specs.declared.kind.Kind.TheVariants.{Entry, Exit, Buffer, Fork, Join, Split, Operator, Constant, Source0, Sink0, Mux, Branch, Merge, CtrlMerge, Init, Tagger}
+use Rattle.components.specs.Kind.{KindOk}
+use Rattle.components.specs.Node.{Body, IsOwned, is_owned}
+use Rattle.components.specs.Laws.{PortsAreShapes}
 use Rattle.graph_print.specs.CanonicalText.{kind_word, hexadecimal, marked_ports, pairs_of}
 use Rattle.graph_read.specs.declared.fault.GraphFaultKind.TheVariants.{MemoryPort}
 use Rattle.graph_read.specs.Attributes.{Pair, last_value}

@@ -4,16 +4,16 @@ use Rattle.std.proofs.lemmas.Bool.{not-true, or_parts}
 use Rattle.std.proofs.lemmas.Option.{none-some}
 use Rattle.std.specs.Option.{option_map}
 use Rattle.std.specs.FinMap as map
-use Rattle.graph_core.specs.declared.kind.Kind.TheVariants.{Buffer}
-use Rattle.graph_core.specs.declared.node.Node.{Node}
+use Rattle.components.specs.declared.kind.Kind.TheVariants.{Buffer}
+use Rattle.components.specs.declared.node.Node.{Node}
 use Rattle.graph_core.specs.declared.place.NodeId.{NodeId}
 use Rattle.graph_core.specs.declared.place.PortAt.{PortAt}
-use Rattle.graph_core.specs.Name.{Name, Port, port_get}
-use Rattle.graph_core.specs.Kind.{Shape, ins}
-use Rattle.graph_core.specs.Node.{body_of}
-use Rattle.graph_core.specs.NamedGraph.{NamedGraph, IsTyped, IsWire, CanWire, is_of, with_wire, without_node}
+use Rattle.components.specs.Name.{Name, Port, port_get}
+use Rattle.components.specs.Kind.{Shape, ins}
+use Rattle.components.specs.Node.{body_of}
+use Rattle.components.specs.NamedGraph.{NamedGraph, IsTyped, IsWire, CanWire, is_of, with_wire, without_node}
 use Rattle.graph_core.specs.GraphValue.{GraphValue, node_at, name_of, named_graph, port_named, with_feeder, without_id}
-use Rattle.module_sem.specs.Buffers.{first_port}
+use Rattle.circuits.specs.Buffers.{first_port}
 use Rattle.graphiti.specs.Stripped.{IsBufferKind, IsBuffer}
 use Rattle.graphiti.specs.Strips.{Drops, StaysAtTurn}
 use Rattle.graphiti.specs.Bypass.{IsFedBuffer}

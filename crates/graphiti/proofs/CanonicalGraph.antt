@@ -1,9 +1,9 @@
 -- The canonical document of a graph is read as that graph.
 use Rattle.std.proofs.Common.{◌≡◌, List, [], map, Ok, refl, ap, ◌∙◌}
 use Rattle.std.specs.FinMap as map_of
-use Rattle.graph_core.specs.Name.{Name, Port}
-use Rattle.graph_core.specs.Node.{Body}
-use Rattle.graph_core.specs.NamedGraph.{NamedGraph}
+use Rattle.components.specs.Name.{Name, Port}
+use Rattle.components.specs.Node.{Body}
+use Rattle.components.specs.NamedGraph.{NamedGraph}
 use Rattle.graph_print.specs.CanonicalText.{edge_entry, canonical_document}
 use Rattle.graph_read.specs.GraphReading.{graph_of_nodes, edges_reading, unless, closed, wired, graph_reading}
 use Rattle.graphiti.specs.CanonicalReading.{CanBeReadBack, CanonicalReadsBack}

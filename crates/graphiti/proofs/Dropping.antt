@@ -3,13 +3,13 @@ use Rattle.std.proofs.Common.{◌≡◌, ◌≢◌, ◌⊎◌, ℕ, zero, suc, B
 use Rattle.std.proofs.lemmas.Bool.{not-true, not_from_false, or_from, or_parts}
 use Rattle.std.proofs.lemmas.Option.{none-some, same_Some}
 use Rattle.std.specs.FinMap as map
-use Rattle.graph_core.specs.declared.kind.Kind.{Kind}
-use Rattle.graph_core.specs.declared.kind.Kind.TheVariants.{Buffer}
-use Rattle.graph_core.specs.Name.{Name, Port, port_get}
-use Rattle.graph_core.specs.Kind.{Shape, ins, outs}
-use Rattle.graph_core.specs.Node.{Body}
-use Rattle.graph_core.specs.NamedGraph.{NamedGraph, IsTyped, IsWire, is_of, without_node}
-use Rattle.module_sem.specs.Buffers.{first_port}
+use Rattle.components.specs.declared.kind.Kind.{Kind}
+use Rattle.components.specs.declared.kind.Kind.TheVariants.{Buffer}
+use Rattle.components.specs.Name.{Name, Port, port_get}
+use Rattle.components.specs.Kind.{Shape, ins, outs}
+use Rattle.components.specs.Node.{Body}
+use Rattle.components.specs.NamedGraph.{NamedGraph, IsTyped, IsWire, is_of, without_node}
+use Rattle.circuits.specs.Buffers.{first_port}
 use Rattle.graphiti.specs.Stripped.{IsBufferKind, IsBuffer}
 use Rattle.graphiti.specs.Strips.{Drops, Turn}
 use Rattle.graphiti.proofs.Lookups.{name_total, name_same, port_total, port_same, name_cases, port_cases, get_inserted, get_not_inserted, get_removed, get_not_removed, get_retained, found_if, same_bytes, other_bytes}

@@ -11,10 +11,10 @@ use Rattle.std.proofs.lemmas.Slice.Eq.{bytes_eq-Decides}
 use Rattle.port_types.specs.declared.side.Side.{Side}
 use Rattle.port_types.specs.declared.side.Side.TheVariants.{Ins, Outs}
 use Rattle.port_types.specs.PortText.{port_name}
-use Rattle.graph_core.specs.Name.{Name, Port, port_cmp, port_get}
-use Rattle.graph_core.specs.Kind.{Shape, ports}
-use Rattle.graph_core.specs.Node.{Body}
-use Rattle.graph_core.specs.NamedGraph.{NamedGraph, IsTyped, IsWire, with_wire, is_wired}
+use Rattle.components.specs.Name.{Name, Port, port_cmp, port_get}
+use Rattle.components.specs.Kind.{Shape, ports}
+use Rattle.components.specs.Node.{Body}
+use Rattle.components.specs.NamedGraph.{NamedGraph, IsTyped, IsWire, with_wire, is_wired}
 use Rattle.graph_print.specs.CanonicalText.{edge_entry}
 use Rattle.graph_read.specs.declared.fault.GraphFaultKind.TheVariants.{PortTaken, ShapeDiffers}
 use Rattle.graph_read.specs.GraphReading.{NamedWire, port_there, wire_between, edge_between, edge_reading, edges_reading, then_read}

@@ -3,7 +3,7 @@ use Rattle.std.proofs.Common.{◌≡◌, ℕ, List, length, Ok, subst}
 use Rattle.dot_text.specs.declared.doc.Doc.{Doc}
 use Rattle.dot_text.specs.Documents.{Stands}
 use Rattle.dot_text.specs.Blanks.{SkipsTo, ended, byte}
-use Rattle.graph_core.specs.NamedGraph.{NamedGraph}
+use Rattle.components.specs.NamedGraph.{NamedGraph}
 use Rattle.graph_read.specs.GraphReading.{graph_reading}
 use Rattle.graphiti.specs.Input.{FaultAt, IsInputOf, more}
 

@@ -1,5 +1,5 @@
 -- What the graph drains the stripped graph drains, by the law of circuits.
-use Rattle.module_sem.specs.Laws.{GraphDropDrains}
+use Rattle.circuits.specs.Laws.{GraphDropDrains}
 use Rattle.graphiti.specs.Behaviour.{KeepsDrains, StrippedDrains}
 use Rattle.graphiti.proofs.Refining.{by_stripping}
 

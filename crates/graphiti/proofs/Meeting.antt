@@ -4,9 +4,9 @@ use Rattle.std.proofs.lemmas.Option.{same_Some}
 use Rattle.std.specs.Ordering.{ordering_reverse}
 use Rattle.std.specs.Cmp.{tied_itself}
 use Rattle.std.specs.FinMap as map
-use Rattle.graph_core.specs.Name.{Name, Port, name_cmp}
-use Rattle.graph_core.specs.NamedGraph.{NamedGraph}
-use Rattle.module_sem.specs.Buffers.{first_port}
+use Rattle.components.specs.Name.{Name, Port, name_cmp}
+use Rattle.components.specs.NamedGraph.{NamedGraph}
+use Rattle.circuits.specs.Buffers.{first_port}
 use Rattle.graphiti.specs.Stripped.{IsBuffer, FeedsItself, Meets, Meets.feeds, Meets.beyond, IsLastOfRing, Stays, FeedsStripped, IsStripped}
 use Rattle.graphiti.proofs.Lookups.{name_total, name_same, name_cases}
 use Rattle.graphiti.proofs.Dropping.{Bypasses, node_other, same_buffer, buffer_at}

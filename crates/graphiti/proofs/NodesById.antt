@@ -1,7 +1,7 @@
 -- Ids by their indices, and the nodes that stay where one is taken out.
 use Rattle.std.proofs.Common.{◌≡◌, ◌≢◌, ℕ, zero, suc, refl, ap, List, [], ◌∷◌, Option, None}
 use Rattle.std.specs.Prelude.{slice_get, slice_set}
-use Rattle.graph_core.specs.declared.node.Node.{Node}
+use Rattle.components.specs.declared.node.Node.{Node}
 use Rattle.graph_core.specs.declared.place.NodeId.{NodeId}
 use Rattle.graph_core.specs.Place.{index_of, id_of}
 use Rattle.graph_core.specs.GraphValue.{GraphValue, flat, node_at, without_id}

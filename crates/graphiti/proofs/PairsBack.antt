@@ -11,10 +11,10 @@ use Rattle.std.proofs.lemmas.List.Elements.{filter-append}
 use Rattle.port_types.specs.declared.side.Side.{Side}
 use Rattle.port_types.specs.declared.side.Side.TheVariants.{Ins, Outs}
 use Rattle.port_types.specs.PortText.{side_word, marked_ports_text}
-use Rattle.graph_core.specs.declared.kind.Kind.{Kind}
-use Rattle.graph_core.specs.declared.kind.Kind.TheVariants.{Entry, Exit, Buffer, Fork, Join, Split, Operator, Constant, Source0, Sink0, Mux, Branch, Merge, CtrlMerge, Init, Tagger}
-use Rattle.graph_core.specs.Name.{Name, name_cmp}
-use Rattle.graph_core.specs.Node.{Body, IsOwned, is_owned, kept_of}
+use Rattle.components.specs.declared.kind.Kind.{Kind}
+use Rattle.components.specs.declared.kind.Kind.TheVariants.{Entry, Exit, Buffer, Fork, Join, Split, Operator, Constant, Source0, Sink0, Mux, Branch, Merge, CtrlMerge, Init, Tagger}
+use Rattle.components.specs.Name.{Name, name_cmp}
+use Rattle.components.specs.Node.{Body, IsOwned, is_owned, kept_of}
 use Rattle.graph_print.specs.CanonicalText.{PrintedPort, kind_word, own_pairs, side_pairs, printed_side, marked_ports, pairs_of}
 use Rattle.graph_read.specs.Attributes.{Pair, last_value}
 use Rattle.graphiti.proofs.EntryLists as lists

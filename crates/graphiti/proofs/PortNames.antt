@@ -7,10 +7,10 @@ use Rattle.std.proofs.lemmas.Fmt.{decimal_injective}
 use Rattle.std.proofs.lemmas.List.{append_cancel_left}
 use Rattle.port_types.specs.declared.side.Side.{Side}
 use Rattle.port_types.specs.PortText.{side_word, port_name}
-use Rattle.graph_core.specs.Name.{port_get}
-use Rattle.graph_core.specs.Kind.{Shape, ports}
-use Rattle.graph_core.specs.NamedGraph.{NamedGraph, IsTyped}
-use Rattle.graph_core.specs.Laws.{PortsAreShapes}
+use Rattle.components.specs.Name.{port_get}
+use Rattle.components.specs.Kind.{Shape, ports}
+use Rattle.components.specs.NamedGraph.{NamedGraph, IsTyped}
+use Rattle.components.specs.Laws.{PortsAreShapes}
 use Rattle.graph_read.specs.GraphReading.{named_in}
 use Rattle.graphiti.proofs.Lookups.{same_bytes, other_bytes}
 use Rattle.graphiti.proofs.EdgesBack.{NamesPorts}

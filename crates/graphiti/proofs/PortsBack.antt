@@ -15,10 +15,10 @@ use Rattle.port_types.specs.declared.side.Side.TheVariants.{Ins, Outs}
 use Rattle.port_types.specs.PortText.{marked_texts_from, marked_ports_text}
 use Rattle.port_types.specs.PortGrammar.{is_marker_or_none, are_marked, words_of, word_reading, then_ports, words_reading}
 use Rattle.port_types.specs.PortLaws.{ArePorts, ReadsPorts, ReadsBack}
-use Rattle.graph_core.specs.declared.kind.Kind.{Kind}
-use Rattle.graph_core.specs.declared.kind.Kind.TheVariants.{Operator, Mux, Branch, CtrlMerge}
-use Rattle.graph_core.specs.Kind.{Shape, ports, KindOk}
-use Rattle.graph_core.specs.Laws.{PortsAreShapes}
+use Rattle.components.specs.declared.kind.Kind.{Kind}
+use Rattle.components.specs.declared.kind.Kind.TheVariants.{Operator, Mux, Branch, CtrlMerge}
+use Rattle.components.specs.Kind.{Shape, ports, KindOk}
+use Rattle.components.specs.Laws.{PortsAreShapes}
 use Rattle.graph_print.specs.CanonicalText.{PrintedPort, condition, yes, no, operand_marker, marker, marked_from, marked_ports}
 use Rattle.graph_read.specs.NodeReading.{has_star, shapes_in, text_reading}
 use Rattle.graphiti.proofs.PairsBack.{text_of_side}

@@ -1,7 +1,7 @@
 -- What is printed of a graph that was read can be read again.
 use Rattle.std.proofs.Common.{◌≡◌, ℕ, List, sym, ap, subst, ◌∙◌}
 use Rattle.dot_text.specs.Laws.{OneDocument, StandingPrints, StandingIsUtf8}
-use Rattle.graph_core.specs.NamedGraph.{NamedGraph}
+use Rattle.components.specs.NamedGraph.{NamedGraph}
 use Rattle.graph_print.specs.CanonicalText.{text_of}
 use Rattle.graph_read.specs.GraphReading.{graph_reading}
 use Rattle.graph_read.specs.GraphLaws.{ReadIsTyped, ReadHasAllowedNames}

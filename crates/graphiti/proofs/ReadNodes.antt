@@ -25,12 +25,12 @@ use Rattle.dot_text.specs.Texts.{PairTexts, NodeTexts}
 use Rattle.dot_text.specs.declared.doc.DocNode.{DocNode}
 use Rattle.dot_text.specs.declared.doc.DocEdge.{DocEdge}
 use Rattle.port_types.specs.Numeral.{in_word, digits_of}
-use Rattle.graph_core.specs.declared.kind.Kind.{Kind}
-use Rattle.graph_core.specs.declared.kind.Kind.TheVariants.{Constant}
-use Rattle.graph_core.specs.Name.{Name, name_cmp}
-use Rattle.graph_core.specs.Kind.{Shape}
-use Rattle.graph_core.specs.Node.{Body, is_owned, kept_of}
-use Rattle.graph_core.specs.NamedGraph.{NamedGraph, with_wire}
+use Rattle.components.specs.declared.kind.Kind.{Kind}
+use Rattle.components.specs.declared.kind.Kind.TheVariants.{Constant}
+use Rattle.components.specs.Name.{Name, name_cmp}
+use Rattle.components.specs.Kind.{Shape}
+use Rattle.components.specs.Node.{Body, is_owned, kept_of}
+use Rattle.components.specs.NamedGraph.{NamedGraph, with_wire}
 use Rattle.graph_read.specs.declared.fault.GraphFaultKind.{GraphFaultKind}
 use Rattle.graph_read.specs.declared.fault.GraphFaultKind.TheVariants.{BadName, NameTaken, MemoryNode, MemoryPort, UnknownKind, TooMany}
 use Rattle.graph_read.specs.declared.fault.GraphRefusal.{GraphRefusal}

@@ -1,12 +1,12 @@
 -- The stripped graph against the graph, by the laws of circuits: what holds of a graph without one Buffer holds of the stripped graph.
 use Rattle.std.proofs.Common.{inl, inr, subst, List, [], ◌∷◌}
 use Rattle.std.specs.FinMap as map
-use Rattle.graph_core.specs.Name.{Name}
-use Rattle.graph_core.specs.NamedGraph.{NamedGraph, IsTyped}
-use Rattle.module_sem.specs.Circuit.{circuit_of}
-use Rattle.module_sem.specs.Refines.{Refines}
-use Rattle.module_sem.specs.Buffers.{IsWithoutBuffer}
-use Rattle.module_sem.specs.Laws.{RefinesItself, RefinesInSteps, CircuitIsTyped, GraphDropRefines, GraphPutRefines}
+use Rattle.components.specs.Name.{Name}
+use Rattle.components.specs.NamedGraph.{NamedGraph, IsTyped}
+use Rattle.circuits.specs.Circuit.{circuit_of}
+use Rattle.circuits.specs.Refines.{Refines}
+use Rattle.circuits.specs.Buffers.{IsWithoutBuffer}
+use Rattle.circuits.specs.Laws.{RefinesItself, RefinesInSteps, CircuitIsTyped, GraphDropRefines, GraphPutRefines}
 use Rattle.graphiti.specs.Stripped.{IsStripped}
 use Rattle.graphiti.specs.Strips.{Drops, Turn, Turns}
 use Rattle.graphiti.specs.Behaviour.{StrippedRefines, StrippedIsRefined}

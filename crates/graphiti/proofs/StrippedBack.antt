@@ -1,9 +1,9 @@
 -- A stripped graph is within the limits of reading where the graph is.
 use Rattle.std.proofs.Common.{◌≡◌, ◌≤◌, Some, arith}
 use Rattle.std.specs.FinMap as map
-use Rattle.graph_core.specs.Name.{Name}
-use Rattle.graph_core.specs.Node.{Body}
-use Rattle.graph_core.specs.NamedGraph.{NamedGraph}
+use Rattle.components.specs.Name.{Name}
+use Rattle.components.specs.Node.{Body}
+use Rattle.components.specs.NamedGraph.{NamedGraph}
 use Rattle.graphiti.specs.Behaviour.{StrippedTyped}
 use Rattle.graphiti.specs.ReadBack.{StrippedCanBeRead}
 use Rattle.graphiti.specs.Stripped.{IsStripped}

@@ -1,9 +1,9 @@
 -- Dropping the Buffers in the order of their names strips the graph.
 use Rattle.std.proofs.Common.{inl, inr, refl, sym, subst, ◌∙◌}
 use Rattle.std.specs.FinMap as map
-use Rattle.graph_core.specs.Name.{Name}
-use Rattle.graph_core.specs.NamedGraph.{NamedGraph, IsTyped}
-use Rattle.module_sem.specs.Buffers.{first_port}
+use Rattle.components.specs.Name.{Name}
+use Rattle.components.specs.NamedGraph.{NamedGraph, IsTyped}
+use Rattle.circuits.specs.Buffers.{first_port}
 use Rattle.graphiti.specs.Stripped.{IsBuffer, IsLastOfRing, Stays, StrippedLeavesRings, HasStripped, IsOneStripped}
 use Rattle.graphiti.specs.Behaviour.{StrippedTyped}
 use Rattle.graphiti.specs.Strips.{TurnsStrip}

@@ -4,9 +4,9 @@ use Rattle.std.proofs.lemmas.Option.{none-some, same_Some}
 use Rattle.std.specs.FinMap as fin
 use Rattle.std.specs.FinMap.{find, is_sorted}
 use Rattle.std.specs.FinMap.Entries.{below_all}
-use Rattle.graph_core.specs.Name.{Name, Port, name_cmp}
-use Rattle.graph_core.specs.NamedGraph.{NamedGraph, IsTyped}
-use Rattle.module_sem.specs.Buffers.{first_port}
+use Rattle.components.specs.Name.{Name, Port, name_cmp}
+use Rattle.components.specs.NamedGraph.{NamedGraph, IsTyped}
+use Rattle.circuits.specs.Buffers.{first_port}
 use Rattle.graphiti.specs.Stripped.{IsBuffer, FeedsItself, Meets.feeds, IsLastOfRing, FeedsStripped, IsStripped, OnlyRingsAreLeft}
 use Rattle.graphiti.specs.Strips.{StaysAtTurn, Turns}
 use Rattle.graphiti.proofs.EntryLists.{first, second, less}

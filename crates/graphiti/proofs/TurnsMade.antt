@@ -1,9 +1,9 @@
 -- Each node of a typed graph can have its turn.
 use Rattle.std.proofs.Common.{◌≡◌, inl, inr, refl, ap, ◌∙◌, List, [], ◌∷◌, Some}
 use Rattle.std.specs.FinMap as map
-use Rattle.graph_core.specs.Name.{Name, Port}
-use Rattle.graph_core.specs.NamedGraph.{NamedGraph, IsTyped, with_wire, without_node}
-use Rattle.module_sem.specs.Buffers.{first_port}
+use Rattle.components.specs.Name.{Name, Port}
+use Rattle.components.specs.NamedGraph.{NamedGraph, IsTyped, with_wire, without_node}
+use Rattle.circuits.specs.Buffers.{first_port}
 use Rattle.graphiti.specs.Stripped.{IsBuffer}
 use Rattle.graphiti.specs.Strips.{Turn, Turns, TurnsEnd}
 use Rattle.graphiti.proofs.Lookups.{name_cases}

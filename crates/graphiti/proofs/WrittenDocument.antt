@@ -14,13 +14,13 @@ use Rattle.dot_text.specs.Lexical.{is_plain, Quotes, Quotes.nothing, Quotes.plai
 use Rattle.dot_text.specs.Grammar.{Pair}
 use Rattle.dot_text.specs.Printing.{CanBeQuoted, PairPrints, NodePrints, EdgePrints, DocPrints}
 use Rattle.dot_text.specs.Texts.{PairTexts, NodeTexts, EdgeTexts, DocTexts}
-use Rattle.graph_core.specs.declared.kind.Kind.{Kind}
-use Rattle.graph_core.specs.declared.kind.Kind.TheVariants.{Entry, Exit, Buffer, Fork, Join, Split, Operator, Constant, Source0, Sink0, Mux, Branch, Merge, CtrlMerge, Init, Tagger}
-use Rattle.graph_core.specs.Name.{Name, Port, IsName, IsNameByte, port_get}
-use Rattle.graph_core.specs.Kind.{Shape, ports, KindOk}
-use Rattle.graph_core.specs.Node.{Body}
-use Rattle.graph_core.specs.NamedGraph.{NamedGraph, IsWire}
-use Rattle.graph_core.specs.Laws.{PortsAreShapes}
+use Rattle.components.specs.declared.kind.Kind.{Kind}
+use Rattle.components.specs.declared.kind.Kind.TheVariants.{Entry, Exit, Buffer, Fork, Join, Split, Operator, Constant, Source0, Sink0, Mux, Branch, Merge, CtrlMerge, Init, Tagger}
+use Rattle.components.specs.Name.{Name, Port, IsName, IsNameByte, port_get}
+use Rattle.components.specs.Kind.{Shape, ports, KindOk}
+use Rattle.components.specs.Node.{Body}
+use Rattle.components.specs.NamedGraph.{NamedGraph, IsWire}
+use Rattle.components.specs.Laws.{PortsAreShapes}
 use Rattle.graph_print.specs.CanonicalText.{PrintedPort, kind_word, hexadecimal, own_pairs, side_pairs, printed_side, marked_ports, pairs_of, node_entry, edge_entry, canonical_document}
 use Rattle.graphiti.specs.CanonicalReading.{ValueFits, CanBeReadBack}
 use Rattle.graphiti.specs.CanonicalTexts.{KeptTexts, CanonicalPrints}

@@ -24,8 +24,8 @@ use Rattle.port_types.specs.PortGrammar.{is_marker_or_none, are_marked}
 use Rattle.port_types.specs.PortLaws.{ArePorts}
 use Rattle.dot_text.specs.Lexical.{is_plain, Quotes, Quotes.nothing, Quotes.plain}
 use Rattle.dot_text.specs.Printing.{CanBeQuoted}
-use Rattle.graph_core.specs.declared.kind.Kind.{Kind}
-use Rattle.graph_core.specs.declared.kind.Kind.TheVariants.{Entry, Exit, Buffer, Fork, Join, Split, Operator, Constant, Source0, Sink0, Mux, Branch, Merge, CtrlMerge, Init, Tagger}
+use Rattle.components.specs.declared.kind.Kind.{Kind}
+use Rattle.components.specs.declared.kind.Kind.TheVariants.{Entry, Exit, Buffer, Fork, Join, Split, Operator, Constant, Source0, Sink0, Mux, Branch, Merge, CtrlMerge, Init, Tagger}
 use Rattle.graph_print.specs.CanonicalText.{kind_word, hexadecimal}
 
 -- some quoted text stands for it, and it is UTF-8

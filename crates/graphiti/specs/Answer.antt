@@ -3,9 +3,9 @@ use Rattle.std.specs.Prelude.{◌≡◌, ℕ, ◌<◌, ◌≤◌, false, Err, Is
 use Rattle.std.specs.declared.alloc.Global.{Global}
 use Rattle.dot_text.specs.declared.doc.Doc.{Doc}
 use Rattle.gx_base.specs.Stream.{before, after}
-use Rattle.graph_core.specs.NamedGraph.{NamedGraph}
-use Rattle.module_sem.specs.Circuit.{circuit_of}
-use Rattle.module_sem.specs.Refines.{Refines}
+use Rattle.components.specs.NamedGraph.{NamedGraph}
+use Rattle.circuits.specs.Circuit.{circuit_of}
+use Rattle.circuits.specs.Refines.{Refines}
 use Rattle.graphiti.specs.declared.status.Status.{Status}
 use Rattle.graphiti.specs.declared.status.Status.TheVariants.{Done, Usage, Syntax, TooLong, Graph, ReadFault, WriteFault, NoMemory, NotYet}
 use Rattle.graphiti.specs.declared.words.Command.{Command}

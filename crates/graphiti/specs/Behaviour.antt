@@ -1,11 +1,11 @@
 -- What the stripped graph does, as a circuit.
 use Rattle.std.specs.Prelude.{List}
-use Rattle.graph_core.specs.Name.{Name}
-use Rattle.graph_core.specs.NamedGraph.{NamedGraph, IsTyped}
-use Rattle.module_sem.specs.Circuit.{circuit_of}
-use Rattle.module_sem.specs.PortTokens.{Token}
-use Rattle.module_sem.specs.Refines.{Refines}
-use Rattle.module_sem.specs.Drains.{Drains}
+use Rattle.components.specs.Name.{Name}
+use Rattle.components.specs.NamedGraph.{NamedGraph, IsTyped}
+use Rattle.circuits.specs.Circuit.{circuit_of}
+use Rattle.circuits.specs.PortTokens.{Token}
+use Rattle.circuits.specs.Refines.{Refines}
+use Rattle.circuits.specs.Drains.{Drains}
 use Rattle.graphiti.specs.Stripped.{IsStripped}
 
 -- the stripped graph of a typed graph is typed

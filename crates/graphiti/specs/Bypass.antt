@@ -1,11 +1,11 @@
 -- A Buffer that is dropped at its turn, by its id.
 use Rattle.std.specs.Prelude.{◌≡◌, ◌≢◌, Some, IsSome}
 use Rattle.std.specs.FinMap as map
-use Rattle.graph_core.specs.declared.node.Node.{Node}
+use Rattle.components.specs.declared.node.Node.{Node}
 use Rattle.graph_core.specs.declared.place.NodeId.{NodeId}
 use Rattle.graph_core.specs.declared.place.PortAt.{PortAt}
 use Rattle.graph_core.specs.GraphValue.{GraphValue, HasName, node_at, named_graph, port_named}
-use Rattle.module_sem.specs.Buffers.{first_port}
+use Rattle.circuits.specs.Buffers.{first_port}
 use Rattle.graphiti.specs.Stripped.{IsBuffer}
 
 -- the node of this id is a Buffer with a name of its own, and this output of another node feeds it

@@ -2,11 +2,11 @@
 use Rattle.std.specs.Prelude.{◌≡◌, ℕ, ◌^◌, ◌<◌, ◌≤◌, List, Some, Ok}
 use Rattle.std.specs.FinMap as map
 use Rattle.dot_text.specs.declared.doc.Doc.{Doc}
-use Rattle.graph_core.specs.declared.kind.Kind.{Kind}
-use Rattle.graph_core.specs.declared.kind.Kind.TheVariants.{Constant}
-use Rattle.graph_core.specs.Name.{Name}
-use Rattle.graph_core.specs.Node.{Body, IsOwned}
-use Rattle.graph_core.specs.NamedGraph.{NamedGraph, IsTyped, HasAllowedNames}
+use Rattle.components.specs.declared.kind.Kind.{Kind}
+use Rattle.components.specs.declared.kind.Kind.TheVariants.{Constant}
+use Rattle.components.specs.Name.{Name}
+use Rattle.components.specs.Node.{Body, IsOwned}
+use Rattle.components.specs.NamedGraph.{NamedGraph, IsTyped, HasAllowedNames}
 use Rattle.graph_print.specs.CanonicalText.{canonical_document}
 use Rattle.graph_read.specs.GraphReading.{graph_reading}
 

@@ -5,9 +5,9 @@ use Rattle.std.specs.FinMap as map
 use Rattle.dot_text.specs.declared.doc.Doc.{Doc}
 use Rattle.dot_text.specs.Printing.{CanBeQuoted, DocPrints}
 use Rattle.dot_text.specs.Texts.{DocTexts}
-use Rattle.graph_core.specs.Name.{Name}
-use Rattle.graph_core.specs.Node.{Body}
-use Rattle.graph_core.specs.NamedGraph.{NamedGraph}
+use Rattle.components.specs.Name.{Name}
+use Rattle.components.specs.Node.{Body}
+use Rattle.components.specs.NamedGraph.{NamedGraph}
 use Rattle.graph_print.specs.CanonicalText.{canonical_document}
 use Rattle.graph_read.specs.GraphReading.{graph_reading}
 use Rattle.graphiti.specs.CanonicalReading.{CanBeReadBack}

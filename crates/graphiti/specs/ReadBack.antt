@@ -2,7 +2,7 @@
 use Rattle.std.specs.Prelude.{◌≡◌, ℕ, List}
 use Rattle.std.specs.Str.{IsUtf8}
 use Rattle.dot_text.specs.Printing.{CanBeQuoted}
-use Rattle.graph_core.specs.NamedGraph.{NamedGraph}
+use Rattle.components.specs.NamedGraph.{NamedGraph}
 use Rattle.graph_print.specs.CanonicalText.{text_of}
 use Rattle.graphiti.specs.CanonicalReading.{CanBeReadBack}
 use Rattle.graphiti.specs.CanonicalTexts.{KeptTexts}

@@ -1,9 +1,9 @@
 -- Dropping the Buffers of a graph one after the other.
 use Rattle.std.specs.Prelude.{◌≡◌, ◌≢◌, ◌⊎◌, List, [], ◌∷◌, Some}
 use Rattle.std.specs.FinMap as map
-use Rattle.graph_core.specs.Name.{Name, Port}
-use Rattle.graph_core.specs.NamedGraph.{NamedGraph, IsTyped, with_wire, without_node}
-use Rattle.module_sem.specs.Buffers.{first_port}
+use Rattle.components.specs.Name.{Name, Port}
+use Rattle.components.specs.NamedGraph.{NamedGraph, IsTyped, with_wire, without_node}
+use Rattle.circuits.specs.Buffers.{first_port}
 use Rattle.graphiti.specs.Stripped.{IsBuffer, FeedsItself, IsStripped}
 
 -- without a Buffer that is not wired to itself, what fed it feeds what it fed

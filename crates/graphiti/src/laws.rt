@@ -9,9 +9,9 @@ ghost use Rattle.graphiti.specs.Behaviour.{StrippedDrains, StrippedIsRefined, St
 use dot_text::{
     one_document, printed_document_is_utf8, printed_document_stands, standing_document_prints,
 };
-use graph_core::ports_are_shapes;
+use components::ports_are_shapes;
 use graph_read::{numbers_read_back, read_graphs_are_typed, rows_are_met, rows_read_back};
-use module_sem::{
+use circuits::{
     buffer_keeps_drains, graph_buffer_shows_nothing, graph_typed_as_circuit, refines_in_steps,
     refines_itself,
 };

@@ -1,10 +1,10 @@
 //! Dropping the Buffers of a graph.
 ghost use Rattle.std.specs.Prelude.{◌≡◌, ◌≢◌, IfOk, OnOk, IfSome, IfNone};
 ghost use Rattle.std.specs.FinMap as map_of;
-ghost use Rattle.graph_core.specs.NamedGraph.{IsTyped};
+ghost use Rattle.components.specs.NamedGraph.{IsTyped};
 ghost use Rattle.graph_core.specs.GraphValue.{named_graph, node_at};
-ghost use Rattle.module_sem.specs.Circuit.{circuit_of};
-ghost use Rattle.module_sem.specs.Refines.{Refines};
+ghost use Rattle.circuits.specs.Circuit.{circuit_of};
+ghost use Rattle.circuits.specs.Refines.{Refines};
 ghost use Rattle.graphiti.specs.Behaviour.{KeepsDrains};
 ghost use Rattle.graphiti.specs.Stripped.{IsStripped, OnlyRingsAreLeft};
 ghost use Rattle.graphiti.specs.Strips.{Drops, StaysAtTurn, Turn, Turns};
@@ -12,7 +12,8 @@ ghost use Rattle.graphiti.specs.Bypass.{IsFedBuffer};
 ghost use Rattle.graph_core.specs.GraphValue.{AreInOrder};
 
 use crate::laws::{only_rings_are_left, stripped_drains, stripped_refines};
-use graph_core::{AddWire, Graph, Kind, NodeId, PortAt};
+use components::Kind;
+use graph_core::{AddWire, Graph, NodeId, PortAt};
 use port_types::NoMemory;
 use std::alloc::Global;
 

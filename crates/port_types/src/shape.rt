@@ -1,16 +1,16 @@
-ghost use Rattle.std.specs.Prelude.{◌≡◌, ◌↔◌, IsTrue, IsSome, IfSome, IfOk};
+ghost use Rattle.std.specs.Prelude.{◌≡◌, ◌↔◌, IsTrue, IsSome, IfSome, nat_eq};
+ghost use Rattle.std.specs.Cmp.{partial_equiv_from_equiv};
+ghost use Rattle.std.specs.Cmp.Lexicographic.{pointwise, nat_list_eq_equiv};
 ghost use Rattle.port_types.specs.Shape.{IsShape};
 
-use crate::memory::NoMemory;
 use op_table::MAX_WIDTH;
-use std::alloc::Global;
 use std::marker::Model;
 
 /// The greatest number of fields of a shape.
 pub const MAX_FIELDS: usize = 128;
 
 /// A shape: the widths of its fields in bits, 1 to 128 of them, each from 0 to 64. Contracts see the list of widths.
-#[derive(Debug, Drop)]
+#[derive(Clone, Debug, Drop)]
 pub struct Shape {
     widths: Vec<u8>,
 }
@@ -24,6 +24,20 @@ impl Model for Shape {
     ghost view = { λ s. s.widths.items };
 
     ghost invariant = { λ s. IsShape s.widths.items };
+}
+
+impl PartialEq for Shape {
+    ghost eq = { pointwise nat_eq };
+
+    ghost laws = { partial_equiv_from_equiv nat_list_eq_equiv };
+
+    fn eq(&self, other: &Shape) -> bool {
+        self.widths == other.widths
+    }
+}
+
+impl Eq for Shape {
+    ghost laws = { nat_list_eq_equiv };
 }
 
 /// Whether there are 1 to 128 widths, each from 0 to 64.
@@ -55,19 +69,4 @@ impl Shape {
     {
         self.widths.as_slice()
     }
-
-    /// An equal shape of its own.
-    pub fn copy(&self, alloc: Global) -> Result<Shape, NoMemory>
-        ensures { IfOk result (λ shape. shape ≡ self.now) }
-    {
-        let widths = Vec::from_slice(alloc, self.widths.as_slice())?;
-        Ok(Shape { widths })
-    }
-}
-
-/// Whether two shapes have the same widths.
-pub fn same_shape(a: &Shape, b: &Shape) -> bool
-    ensures { IsTrue result ↔ (a.now ≡ b.now) }
-{
-    a.widths() == b.widths()
 }

@@ -1,7 +1,7 @@
 use crate::{
-    Items, NoMemory, Port, PortFault, Shape, Side, Text, Token, copy_pair, fits, is_shape,
+    Items, NoMemory, Port, PortFault, Shape, Side, Text, Token, fits, is_shape,
     print_port_name, print_ports, read_decimal, read_hexadecimal, read_numeral, read_port_name,
-    read_ports, same_shape, tag_width, text_behind,
+    read_ports, tag_width, text_behind,
 };
 use std::alloc::{AllocError, AllocFailed, Global};
 use std::test::Fail;
@@ -130,10 +130,9 @@ fn shapes(rt: HostRuntime) -> Result<(), Fail> {
         );
     }
     let shape = shape_of(alloc, &[4, 32])?;
-    let copy = shape.copy(alloc)?;
+    let copy = shape.clone()?;
     assert_eq!(rt; copy.widths(), [4, 32].as_slice());
-    assert!(rt; same_shape(&shape, &copy));
-    assert!(rt; !same_shape(&shape, &shape_of(alloc, &[32, 4])?));
+    assert!(rt; shape == copy && shape != shape_of(alloc, &[32, 4])?);
     Ok(())
 }
 
@@ -153,9 +152,9 @@ fn texts_are_utf8(rt: HostRuntime) -> Result<(), Fail> {
     let alloc = rt.alloc();
     assert!(rt; Text::new([0xc3].to_vec(alloc)?).is_none());
     let text = text_of(alloc, "a\u{20ac}")?;
-    assert_eq!(rt; text.copy(alloc)?.bytes(), "a\u{20ac}".as_bytes());
-    let pair = copy_pair(alloc, &(text, Text::from_string(String::new(alloc))))?;
-    assert_eq!(rt; (pair.0.as_str(), pair.1.as_str()), ("a\u{20ac}", ""));
+    let copy = text.clone()?;
+    assert_eq!(rt; copy.bytes(), "a\u{20ac}".as_bytes());
+    assert!(rt; text == copy && text != text_of(alloc, "a")?);
     Ok(())
 }
 
@@ -163,6 +162,7 @@ fn texts_are_utf8(rt: HostRuntime) -> Result<(), Fail> {
 fn items_and_tags(rt: HostRuntime) -> Result<(), Fail> {
     let items = Items::new([3u8, 1].to_vec(rt.alloc())?);
     assert_eq!(rt; items.as_slice(), [3, 1].as_slice());
+    assert!(rt; items.clone()? == items);
     assert_eq!(rt; items.into_vec().as_slice(), [3, 1].as_slice());
     for (tags, want) in [(1, 1), (2, 1), (3, 2), (128, 7), (129, 8), (256, 8)] {
         assert_eq!(rt; tag_width(tags), want, "{tags}");

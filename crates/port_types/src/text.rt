@@ -1,12 +1,12 @@
-ghost use Rattle.std.specs.Prelude.{◌≡◌, ◌↔◌, IsSome, IfSome, IfOk, string_bytes};
+ghost use Rattle.std.specs.Prelude.{◌≡◌, ◌↔◌, IsSome, IfSome, nat_eq, string_bytes};
+ghost use Rattle.std.specs.Cmp.{partial_equiv_from_equiv};
+ghost use Rattle.std.specs.Cmp.Lexicographic.{pointwise, nat_list_eq_equiv};
 ghost use Rattle.std.specs.Str.{IsUtf8};
 
-use crate::memory::NoMemory;
-use std::alloc::Global;
 use std::marker::Model;
 
 /// A text: bytes that are UTF-8. Contracts see its bytes.
-#[derive(Debug, Drop)]
+#[derive(Clone, Debug, Drop)]
 pub struct Text {
     text: String,
 }
@@ -17,6 +17,20 @@ impl Model for Text {
     ghost Value = { List ℕ };
 
     ghost view = { λ t. string_bytes t.text };
+}
+
+impl PartialEq for Text {
+    ghost eq = { pointwise nat_eq };
+
+    ghost laws = { partial_equiv_from_equiv nat_list_eq_equiv };
+
+    fn eq(&self, other: &Text) -> bool {
+        self.text == other.text
+    }
+}
+
+impl Eq for Text {
+    ghost laws = { nat_list_eq_equiv };
 }
 
 impl Text {
@@ -56,21 +70,4 @@ impl Text {
     {
         self.text.as_str()
     }
-
-    /// An equal text of its own.
-    pub fn copy(&self, alloc: Global) -> Result<Text, NoMemory>
-        ensures { IfOk result (λ text. text ≡ self.now) }
-    {
-        let text = String::from_str(alloc, self.text.as_str())?;
-        Ok(Text { text })
-    }
-}
-
-/// An equal key and value of their own. The only error is want of memory.
-pub fn copy_pair(alloc: Global, pair: &(Text, Text)) -> Result<(Text, Text), NoMemory>
-    ensures { IfOk result (λ copy. copy ≡ pair.now) }
-{
-    let key = pair.0.copy(alloc)?;
-    let value = pair.1.copy(alloc)?;
-    Ok((key, value))
 }

@@ -1,4 +1,6 @@
-ghost use Rattle.std.specs.Prelude.{◌≡◌, ◌^◌, ◌<◌, ◌≤◌, ◌↔◌, IsTrue};
+ghost use Rattle.std.specs.Prelude.{◌≡◌, ◌^◌, ◌<◌, ◌≤◌, ◌↔◌, IsTrue, nat_eq};
+ghost use Rattle.std.specs.Cmp.{partial_equiv_from_equiv};
+ghost use Rattle.std.specs.Cmp.Lexicographic.{pointwise, nat_list_eq_equiv};
 ghost use Rattle.port_types.specs.Shape.{IsShape};
 ghost use Rattle.port_types.specs.Token.{Fits};
 
@@ -6,7 +8,7 @@ use crate::shape::Shape;
 use std::marker::Model;
 
 /// A token: a list of numbers. Contracts see the list.
-#[derive(Debug, Drop)]
+#[derive(Clone, Debug, Drop)]
 pub struct Token {
     fields: Vec<u64>,
 }
@@ -17,6 +19,20 @@ impl Model for Token {
     ghost Value = { List ℕ };
 
     ghost view = { λ t. t.fields.items };
+}
+
+impl PartialEq for Token {
+    ghost eq = { pointwise nat_eq };
+
+    ghost laws = { partial_equiv_from_equiv nat_list_eq_equiv };
+
+    fn eq(&self, other: &Token) -> bool {
+        self.fields == other.fields
+    }
+}
+
+impl Eq for Token {
+    ghost laws = { nat_list_eq_equiv };
 }
 
 impl Token {

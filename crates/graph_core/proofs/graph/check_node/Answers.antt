@@ -1,6 +1,6 @@
 use Rattle.std.proofs.Common.{◌≡◌, length, Some, rules, subst}
 use Rattle.port_types.specs.declared.side.Side.TheVariants.{Ins, Outs}
-use Rattle.graph_core.specs.Kind.{ins}
+use Rattle.components.specs.Kind.{ins}
 use Rattle.graph_core.specs.GraphValue.{node_at}
 use Rattle.graph_core.specs.OpenPorts.{AreWired, IsFirstFree}
 use Rattle.graph_core.proofs.Opening.{is_closed, is_first_in, is_first_out}

@@ -1,5 +1,5 @@
 use Rattle.std.proofs.Common.{◌≡◌, ℕ, ◌<◌, Some}
-use Rattle.graph_core.specs.declared.node.Node.{Node}
+use Rattle.components.specs.declared.node.Node.{Node}
 use Rattle.graph_core.specs.Place.{id_of}
 use Rattle.graph_core.specs.GraphValue.{named_graph, node_at}
 use Rattle.graph_core.specs.Within.{StandsIn}

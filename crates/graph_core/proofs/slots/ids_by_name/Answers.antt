@@ -1,8 +1,8 @@
 use Rattle.std.proofs.Common.{◌≡◌, ◌∙◌, ◌+◌, [], Some, None, map, slice_get, rules, sym, ap, subst, arith}
 use Rattle.graph_core.specs.GraphValue.{flat}
 use Rattle.graph_core.proofs.SlotLists.{slot_at}
-use Rattle.graph_core.specs.Name.{Name}
-use Rattle.graph_core.specs.Node.{Body}
+use Rattle.components.specs.Name.{Name}
+use Rattle.components.specs.Node.{Body}
 use Rattle.graph_core.proofs.ByKey.{Matches-values, ref_cmp}
 use Rattle.graph_core.proofs.InOrder.{AreIds, AreIds-node, named_at, so_far, so_far-none, so_far-nothing, so_far-all}
 use Rattle.std.specs.BTreeMap.{insert_entry}

@@ -1,7 +1,7 @@
 use Rattle.std.proofs.Common.{◌-◌, take, map, ap, arith}
 use Rattle.std.proofs.lemmas.Grind.{common_steps}
 use Rattle.std.proofs.lemmas.List.{take_all, map-append}
-use Rattle.graph_core.specs.Kind.{ins}
+use Rattle.components.specs.Kind.{ins}
 use Rattle.graph_core.specs.GraphValue.{named_graph}
 use Rattle.graph_print.specs.CanonicalText.{edge_entry}
 use Rattle.graph_print.specs.PrintedWires.{wires_from}

@@ -1,5 +1,5 @@
 use Rattle.std.proofs.Common.{◌≡◌, ◌-◌, ◌++◌, map, take}
-use Rattle.graph_core.specs.Kind.{ins}
+use Rattle.components.specs.Kind.{ins}
 use Rattle.graph_core.specs.GraphValue.{named_graph}
 use Rattle.graph_print.specs.CanonicalText.{edge_entry}
 use Rattle.graph_print.specs.PrintedWires.{wires_from}

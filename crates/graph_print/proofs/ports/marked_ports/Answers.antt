@@ -3,7 +3,7 @@ use Rattle.std.specs.Prelude.{IsTrue}
 use Rattle.std.proofs.lemmas.Grind.{common_steps}
 use Rattle.std.proofs.lemmas.List.{take_all}
 use Rattle.port_types.specs.PortGrammar.{are_marked}
-use Rattle.graph_core.specs.Kind.{ports}
+use Rattle.components.specs.Kind.{ports}
 use Rattle.graph_print.proofs.PortsInOrder.{port_get-within}
 use Rattle.graph_print.proofs.Markers.{marked, marked_up_to}
 use Rattle.graph_print.proofs.ports.marked_ports.Goals as goal

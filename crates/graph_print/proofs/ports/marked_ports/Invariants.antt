@@ -1,5 +1,5 @@
 use Rattle.std.proofs.Common.{◌≡◌, ◌-◌, take}
-use Rattle.graph_core.specs.Kind.{ports}
+use Rattle.components.specs.Kind.{ports}
 use Rattle.graph_print.specs.CanonicalText.{marked_from}
 use Rattle.graph_print.proofs.ports.marked_ports.Given as goal
 

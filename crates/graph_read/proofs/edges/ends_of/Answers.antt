@@ -1,6 +1,6 @@
 use Rattle.std.proofs.Common.{◌≡◌, ℕ, List, None, codes, subst}
 use Rattle.port_types.specs.declared.side.Side.TheVariants.{Ins, Outs}
-use Rattle.graph_core.specs.Node.{body_of}
+use Rattle.components.specs.Node.{body_of}
 use Rattle.graph_read.specs.Attributes.{Pair, last_value}
 use Rattle.graph_read.specs.GraphReading.{port_there}
 use Rattle.graph_read.specs.GraphSteps.{IsFound, IsEnd}

@@ -1,5 +1,5 @@
 use Rattle.std.proofs.Common.{◌≤◌, length, arith}
-use Rattle.graph_core.specs.Kind.{ports}
+use Rattle.components.specs.Kind.{ports}
 use Rattle.graph_read.proofs.PortNames.{is_port_there, other_port, no_port}
 use Rattle.graph_read.proofs.edges.port_number.Goals as goal
 

@@ -1,5 +1,5 @@
 use Rattle.std.proofs.Common.{List, Option, sym, subst}
-use Rattle.graph_core.specs.declared.node.Node.{Node}
+use Rattle.components.specs.declared.node.Node.{Node}
 use Rattle.graph_core.specs.Place.{index_of}
 use Rattle.graph_read.proofs.NodeLists.{live_in_order}
 use Rattle.graph_read.proofs.OpenPorts.{AreLive}

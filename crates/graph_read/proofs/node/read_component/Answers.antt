@@ -1,7 +1,7 @@
 use Rattle.std.proofs.Common.{◌≡◌, ◌≤◌, List, length, sym, subst}
 use Rattle.std.specs.Prelude.{All}
 use Rattle.port_types.specs.Shape.{IsShape}
-use Rattle.graph_core.specs.Kind.{Shape}
+use Rattle.components.specs.Kind.{Shape}
 use Rattle.graph_read.specs.Laws.{AreRead}
 use Rattle.graph_read.proofs.node.read_component.Goals as goal
 

@@ -1,8 +1,8 @@
 use Rattle.std.proofs.Common.{◌≡◌, true, sym, ap, ◌∙◌}
 use Rattle.std.specs.FinMap as map_of
 use Rattle.graph_core.specs.GraphValue.{named_graph, named_nodes}
-use Rattle.graph_core.specs.NamedGraph.{with_node}
-use Rattle.graph_core.specs.Node.{body_of}
+use Rattle.components.specs.NamedGraph.{with_node}
+use Rattle.components.specs.Node.{body_of}
 use Rattle.graph_read.specs.NodeReading.{is_name}
 use Rattle.graph_read.proofs.NodeSteps.{taken_name, new_name, is_key, is_no_key, refused_reading}
 use Rattle.graph_read.proofs.nodes.add_statement.Goals as goal

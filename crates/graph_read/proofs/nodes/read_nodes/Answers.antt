@@ -1,10 +1,10 @@
 use Rattle.std.proofs.Common.{◌≡◌, List, Option, map, sym, ap, subst, ◌∙◌, arith}
 use Rattle.std.specs.Option.{option_map}
 use Rattle.std.specs.FinMap as map_of
-use Rattle.graph_core.specs.declared.node.Node.{Node}
-use Rattle.graph_core.specs.Name.{name_cmp}
-use Rattle.graph_core.specs.Node.{Body}
-use Rattle.graph_core.specs.NamedGraph.{NamedGraph, HasAllowedNames}
+use Rattle.components.specs.declared.node.Node.{Node}
+use Rattle.components.specs.Name.{name_cmp}
+use Rattle.components.specs.Node.{Body}
+use Rattle.components.specs.NamedGraph.{NamedGraph, HasAllowedNames}
 use Rattle.graph_core.specs.GraphValue.{named_graph, named_nodes}
 use Rattle.graph_read.specs.GraphReading.{nodes_reading}
 use Rattle.graph_read.proofs.NodeLists.{none_named, read_more, order_more, names_more, few_more}

@@ -1,7 +1,7 @@
 use Rattle.std.proofs.Common.{◌≡◌, ◌≤◌, ◌+◌, [], take, drop}
 use Rattle.std.specs.FinMap as map_of
 use Rattle.graph_core.specs.GraphValue.{named_graph, named_nodes}
-use Rattle.graph_core.specs.NamedGraph.{HasAllowedNames}
+use Rattle.components.specs.NamedGraph.{HasAllowedNames}
 use Rattle.graph_read.specs.GraphReading.{nodes_reading}
 use Rattle.graph_read.specs.GraphSteps.{StandInOrder}
 use Rattle.graph_read.proofs.nodes.read_nodes.Given as goal

@@ -1,5 +1,5 @@
 use Rattle.std.proofs.Common.{refl, subst}
-use Rattle.graph_core.specs.Node.{NodeOk}
+use Rattle.components.specs.Node.{NodeOk}
 use Rattle.graph_core.specs.GraphValue.{IsGraph, node_at}
 use Rattle.graph_core.proofs.ByNames.{node_found}
 use Rattle.graph_core.proofs.graph.Graph.node.Goals as goal

@@ -1,5 +1,5 @@
 use Rattle.std.proofs.Common.{◌∙◌, rules, sym, ap, is_some, true≢false}
-use Rattle.graph_core.specs.Kind.{KindOk}
+use Rattle.components.specs.Kind.{KindOk}
 use Rattle.port_types.specs.declared.side.Side.TheVariants.{Ins, Outs}
 use Rattle.graph_core.proofs.Options.{some_there, at_some, at_none, none_by}
 use Rattle.graph_core.proofs.Faults.{Owned, shaped, one_shape, two_shapes, fault_into, fault_from, fault_none, fault_shape}

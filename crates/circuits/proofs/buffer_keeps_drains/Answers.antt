@@ -1,0 +1,9 @@
+use Rattle.circuits.proofs.Draining.{drains_without}
+use Rattle.circuits.proofs.GraphBuffers.{graph_drains}
+use Rattle.circuits.proofs.buffer_keeps_drains.Goals as goal
+
+pub returns-clause-circuit : goal.returns-clause-circuit
+returns-clause-circuit c = λ d b ins outs ty can. drains_without d b can ty ins outs
+
+pub returns-clause-graph : goal.returns-clause-graph
+returns-clause-graph c = λ h g b ins outs ty w. graph_drains h g b ty w ins outs

@@ -1,0 +1,8 @@
+use Rattle.circuits.proofs.Dropped.{dropped, put}
+use Rattle.circuits.proofs.buffer_shows_nothing.Goals as goal
+
+pub returns-clause-dropped : goal.returns-clause-dropped
+returns-clause-dropped c = dropped c.value_fits.ensures
+
+pub returns-clause-put : goal.returns-clause-put
+returns-clause-put c = put c.value_fits.ensures

@@ -1,0 +1,11 @@
+use Rattle.circuits.proofs.LoneWire.{wire_typed, wire_shows, wire_shows_no_other}
+use Rattle.circuits.proofs.wire_shows_tokens.Goals as goal
+
+pub returns-clause-typed : goal.returns-clause-typed
+returns-clause-typed c = wire_typed
+
+pub returns-clause-token : goal.returns-clause-token
+returns-clause-token c = wire_shows
+
+pub returns-clause-no_other : goal.returns-clause-no_other
+returns-clause-no_other c = wire_shows_no_other

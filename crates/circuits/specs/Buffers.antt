@@ -1,0 +1,55 @@
+-- Circuits and graphs without one of their Buffers.
+use Rattle.std.specs.Prelude.{◌≡◌, ◌≢◌, Option, Some, None, if◌then◌else◌, bytes_eq}
+use Rattle.std.specs.FinMap as map
+use Rattle.components.specs.declared.kind.Kind.{Kind}
+use Rattle.components.specs.declared.kind.Kind.TheVariants.{Buffer, Fork}
+use Rattle.components.specs.Name.{Name, Port}
+use Rattle.components.specs.Kind.{Shape}
+use Rattle.components.specs.Node.{Body}
+use Rattle.components.specs.NamedGraph.{NamedGraph, without_node, with_wire}
+use Rattle.circuits.specs.Circuit.{Circuit}
+
+-- the first port of a side
+abbrev pub first_port : Name → Port
+first_port b = record { node = b; port = 1 }
+
+-- what feeds an input once b is gone, where before fed b
+abbrev pub bypass : Name → Option Port → Option Port → Option Port
+bypass b before None = None
+bypass b before (Some q) = if bytes_eq q.node b then before else Some q
+
+-- c without b: what fed b feeds what b fed
+abbrev pub drop_node : Name → Circuit → Circuit
+drop_node b c =
+    record {
+      kind_at = λ n. if bytes_eq n b then None else c.kind_at n;
+      feeder = λ p. if bytes_eq p.node b then None else bypass b (c.feeder (first_port b)) (c.feeder p);
+    }
+
+-- a Buffer, or a Fork of one output
+abbrev pub IsBufferLike : Kind → Type 0
+IsBufferLike (Buffer shape) = Unit {0}
+IsBufferLike (Fork shape count) = count ≡ 1
+IsBufferLike _ = ⊥
+
+-- b can be left out: it passes tokens on, and is not wired to itself
+pub record CanDropBuffer (c : Circuit) (b : Name) : Type 0 where
+  pub kind : Kind
+  pub is_kind : c.kind_at b ≡ Some kind
+  pub passes : IsBufferLike kind
+  pub before : Port
+  pub is_before : c.feeder (first_port b) ≡ Some before
+  pub other : before.node ≢ b
+
+-- graph h is graph g without the Buffer b, which is not wired to itself
+pub record IsWithoutBuffer (h g : NamedGraph) (b : Name) : Type 0 where
+  pub body : Body
+  pub shape : Shape
+  pub is_body : map.get g.nodes b ≡ Some body
+  pub is_buffer : body.kind ≡ Buffer shape
+  pub source : Port
+  pub target : Port
+  pub before : map.get g.feeders (first_port b) ≡ Some source
+  pub after : map.get g.feeders target ≡ Some (first_port b)
+  pub other : source.node ≢ b
+  pub is : h ≡ with_wire (without_node g b) source target

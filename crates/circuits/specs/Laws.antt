@@ -1,0 +1,175 @@
+-- The laws of circuits. AllByRecursion is proved of a function of this crate.
+use Rattle.std.specs.Prelude.{◌≡◌, ◌↔◌, ℕ, drop, List, [], ◌∷◌, Some}
+use Rattle.std.specs.List.{AllByRecursion}
+use Rattle.port_types.specs.Shape.{IsShape}
+use Rattle.port_types.specs.Token.{Fits}
+use Rattle.components.specs.declared.kind.Kind.{Kind}
+use Rattle.components.specs.declared.kind.Kind.TheVariants.{Buffer, Init, Tagger}
+use Rattle.components.specs.Name.{Name, Port}
+use Rattle.components.specs.Kind.{Shape, field, KindOk}
+use Rattle.components.specs.NamedGraph.{NamedGraph, IsTyped}
+use Rattle.circuits.specs.PortTokens.{Token, single, one}
+use Rattle.circuits.specs.Circuit.{Circuit, Typed, circuit_of}
+use Rattle.circuits.specs.State.{State, start, IsStateOf}
+use Rattle.circuits.specs.Firing.{Label, Label.Fire}
+use Rattle.circuits.specs.Run.{Step, Move, Run, Shows}
+use Rattle.circuits.specs.TaggerOrder.{tags_of, tags_given, results_given}
+use Rattle.circuits.specs.Plug.{Link, plug, CanPlug}
+use Rattle.circuits.specs.Refines.{Refines}
+use Rattle.circuits.specs.Buffers.{first_port, drop_node, CanDropBuffer, IsWithoutBuffer}
+use Rattle.circuits.specs.Root.{Root}
+use Rattle.circuits.specs.Drains.{IsInit, IsRest, Drains}
+use Rattle.circuits.specs.LoneWire.{entry_name, exit_name, lone_wire, fed, took}
+use Rattle.circuits.specs.Listed.{fed_at, taken_at}
+use Rattle.circuits.specs.LoneTagger.{fresh, work, back, results, lone_tagger}
+use Rattle.circuits.specs.LoneInit.{bits, out, lone_init}
+
+-- what a typed circuit holds at the start fits
+abbrev pub StartIsState : Type 0
+StartIsState = (c : Circuit) → Typed c → IsStateOf c (start c)
+
+-- and it fits after each step
+abbrev pub StepKeepsState : Type 0
+StepKeepsState = (c : Circuit) → Typed c →
+    (s : State) (n : Name) (l : Label) (t : State) → Step c s n l t → IsStateOf c s → IsStateOf c t
+
+-- so what a run from the start reaches is a state of the circuit
+abbrev pub RunReachesState : Type 0
+RunReachesState = (c : Circuit) → Typed c → (ms : List Move) (t : State) → Run c (start c) ms t → IsStateOf c t
+
+-- a firing, with its choice, leads to one state
+abbrev pub FiringIsOne : Type 0
+FiringIsOne = (c : Circuit) (s t u : State) (n : Name) (choice : ℕ) → IsStateOf c s → Step c s n (Fire choice) t → Step c s n (Fire choice) u → t ≡ u
+
+-- after any run the tags in the slots of a Tagger are those that it gave out, in this order, without as many of the first as it gave results
+abbrev pub TaggerKeepsOrder : Type 0
+TaggerKeepsOrder = (c : Circuit) (n : Name) (shape : Shape) (tags : ℕ) → c.kind_at n ≡ Some (Tagger shape tags) →
+    (ms : List Move) (t : State) → Run c (start c) ms t → tags_of (t.slots n) ≡ drop (results_given n ms) (tags_given n ms)
+
+-- a typed circuit refines itself
+abbrev pub RefinesItself : Type 0
+RefinesItself = (c : Circuit) → Typed c → Refines c c
+
+-- refinement goes on from step to step, whatever the names in between
+abbrev pub RefinesInSteps : Type 0
+RefinesInSteps = (new between old : Circuit) → Refines new between → Refines between old → Refines new old
+
+-- what refines another shows, alone, nothing that the other does not
+abbrev pub RefinesAlone : Type 0
+RefinesAlone = (new old : Circuit) → Refines new old → (tr : List Move) → Shows new tr → Shows old tr
+
+-- a plugged circuit is typed
+abbrev pub PlugIsTyped : Type 0
+PlugIsTyped = (c : Circuit) (ls : List Link) (g : Circuit) → Typed c → Typed g → CanPlug c ls g →
+    Typed (plug c ls g)
+
+-- a circuit refined in a part is refined
+abbrev pub WholeRefines : Type 0
+WholeRefines = (rest new old : Circuit) (ls : List Link) → Typed rest →
+    CanPlug rest ls new → CanPlug rest ls old → Refines new old → Refines (plug rest ls new) (plug rest ls old)
+
+-- without a Buffer a circuit shows nothing new
+abbrev pub DropRefines : Type 0
+DropRefines = (c : Circuit) (b : Name) → Typed c → CanDropBuffer c b → Refines (drop_node b c) c
+
+-- nor with it
+abbrev pub PutRefines : Type 0
+PutRefines = (c : Circuit) (b : Name) → Typed c → CanDropBuffer c b → Refines c (drop_node b c)
+
+-- a typed graph stands for a typed circuit
+abbrev pub CircuitIsTyped : Type 0
+CircuitIsTyped = (g : NamedGraph) → IsTyped g → Typed (circuit_of g)
+
+-- and only a typed one does
+abbrev pub GraphIsTyped : Type 0
+GraphIsTyped = (g : NamedGraph) → Typed (circuit_of g) → IsTyped g
+
+-- without a Buffer a graph shows nothing new
+abbrev pub GraphDropRefines : Type 0
+GraphDropRefines = (h g : NamedGraph) (b : Name) → IsTyped g → IsWithoutBuffer h g b →
+    Refines (circuit_of h) (circuit_of g)
+
+-- nor with it
+abbrev pub GraphPutRefines : Type 0
+GraphPutRefines = (h g : NamedGraph) (b : Name) → IsTyped g → IsWithoutBuffer h g b →
+    Refines (circuit_of g) (circuit_of h)
+
+-- a wire from an Entry to an Exit is typed
+abbrev pub WireIsTyped : Type 0
+WireIsTyped = (shape : Shape) → IsShape shape → IsTyped (lone_wire shape)
+
+-- a token that is fed to it can be taken from it
+abbrev pub WireShowsToken : Type 0
+WireShowsToken = (shape : Shape) (v : Token) → Fits shape v →
+    Shows (circuit_of (lone_wire shape)) (fed v ∷ took v ∷ [])
+
+-- and none can be taken before
+abbrev pub WireShowsNoOther : Type 0
+WireShowsNoOther = (shape : Shape) (v : Token) → ¬ (Shows (circuit_of (lone_wire shape)) (took v ∷ []))
+
+-- an input has at most one root
+abbrev pub RootIsOne : Type 0
+RootIsOne = (c : Circuit) (p q r : Port) → Root c p q → Root c p r → q ≡ r
+
+-- and that of a Buffer that is wired to itself has none
+abbrev pub RingHasNoRoot : Type 0
+RingHasNoRoot = (c : Circuit) (b : Name) (shape : Shape) (q : Port) →
+    c.kind_at b ≡ Some (Buffer shape) → c.feeder (first_port b) ≡ Some (first_port b) → ¬ (Root c (first_port b) q)
+
+-- there is at most one rest state, whatever the order in which the led nodes fire
+abbrev pub RestIsOne : Type 0
+RestIsOne = (c : Circuit) (r s : State) → IsRest c r → IsRest c s → r ≡ s
+
+-- a graph, which has finitely many nodes, has one
+abbrev pub GraphRests : Type 0
+GraphRests = (g : NamedGraph) → (rest : State) × IsRest (circuit_of g) rest
+
+-- with no Init the start is at rest
+abbrev pub RestsWithoutInit : Type 0
+RestsWithoutInit = (c : Circuit) → ((n : Name) (k : Kind) → c.kind_at n ≡ Some k → ¬ (IsInit k)) → IsRest c (start c)
+
+-- what a circuit drains it drains without a Buffer
+abbrev pub DropDrains : Type 0
+DropDrains = (c : Circuit) (b : Name) (ins outs : Name → List Token) → Typed c → CanDropBuffer c b →
+    Drains c ins outs → Drains (drop_node b c) ins outs
+
+-- and so does a graph
+abbrev pub GraphDropDrains : Type 0
+GraphDropDrains = (h g : NamedGraph) (b : Name) (ins outs : Name → List Token) → IsTyped g → IsWithoutBuffer h g b →
+    Drains (circuit_of g) ins outs → Drains (circuit_of h) ins outs
+
+-- a wire from an Entry to an Exit drains fitting tokens to themselves, and to nothing else
+abbrev pub WireDrains : Type 0
+WireDrains = (shape : Shape) (ins outs : Name → List Token) →
+    Drains (circuit_of (lone_wire shape)) ins outs ↔ (AllByRecursion (Fits shape) (ins entry_name) × (outs exit_name ≡ ins entry_name))
+
+-- a Tagger with an Entry or an Exit at each port is typed
+abbrev pub TaggerIsTyped : Type 0
+TaggerIsTyped = (shape : Shape) (tags : ℕ) → KindOk (Tagger shape tags) → IsTyped (lone_tagger shape tags)
+
+-- with two tags it gives the results in the order in which the tokens came, although the second result comes back first
+abbrev pub TaggerShowsInOrder : Type 0
+TaggerShowsInOrder = (shape : Shape) (v u a b : Token) → Fits shape v → Fits shape u → Fits shape a → Fits shape b →
+    Shows (circuit_of (lone_tagger shape 2))
+    (fed_at fresh v ∷ fed_at fresh u ∷ taken_at work (0 ∷ v) ∷ taken_at work (1 ∷ u) ∷
+    fed_at back (1 ∷ b) ∷ fed_at back (0 ∷ a) ∷ taken_at results a ∷ taken_at results b ∷ [])
+
+-- and where only the second result has come back it gives none, whatever its tags
+abbrev pub TaggerShowsNoOther : Type 0
+TaggerShowsNoOther = (shape : Shape) (tags : ℕ) (v u b y : Token) (first second : ℕ) →
+    ¬ (Shows (circuit_of (lone_tagger shape tags))
+    (fed_at fresh v ∷ fed_at fresh u ∷ taken_at work (first ∷ v) ∷ taken_at work (second ∷ u) ∷
+    fed_at back (second ∷ b) ∷ taken_at results y ∷ []))
+
+-- an Init between an Entry and a Buffer before an Exit is typed
+abbrev pub InitIsTyped : Type 0
+InitIsTyped = (value mark : ℕ) → KindOk (Init value mark) → IsTyped (lone_init value mark)
+
+-- at rest the Init's value has passed the Buffer
+abbrev pub InitRests : Type 0
+InitRests = (value mark : ℕ) → (rest : State) × IsRest (circuit_of (lone_init value mark)) rest × (rest.wires (first_port out) ≡ one (single value))
+
+-- it drains bits to the value followed by them, and to nothing else
+abbrev pub InitDrains : Type 0
+InitDrains = (value mark : ℕ) (ins outs : Name → List Token) → KindOk (Init value mark) →
+    Drains (circuit_of (lone_init value mark)) ins outs ↔ (AllByRecursion (Fits (field 1)) (ins bits) × (outs out ≡ single value ∷ ins bits))

@@ -1,0 +1,121 @@
+//! What circuits do: their states and steps, what is seen of a run, when one circuit refines another, and what a circuit drains.
+//!
+//! The crate has definitions and laws, and no calls: each function has a law of `specs/` for its contract, and a body that is empty or calls laws of a lower crate.
+#![tactic(auto)]
+
+ghost use Rattle.circuits.specs.Laws.{StartIsState, StepKeepsState, RunReachesState, FiringIsOne, TaggerKeepsOrder, RefinesItself, RefinesInSteps, RefinesAlone, PlugIsTyped, WholeRefines, DropRefines, PutRefines, CircuitIsTyped, GraphIsTyped, GraphDropRefines, GraphPutRefines, WireIsTyped, WireShowsToken, WireShowsNoOther, RootIsOne, RingHasNoRoot, RestIsOne, GraphRests, RestsWithoutInit, DropDrains, GraphDropDrains, WireDrains, TaggerIsTyped, TaggerShowsInOrder, TaggerShowsNoOther, InitIsTyped, InitRests, InitDrains};
+
+use op_table::value_fits;
+
+/// In each state that a typed circuit reaches, tokens fit the shapes of their wires, what stands in the slots of Taggers fits, and the tags of the slots of each differ.
+pub fn states_fit()
+    ensures start { StartIsState }
+    ensures step { StepKeepsState }
+    ensures run { RunReachesState }
+{
+    value_fits();
+}
+
+/// A node that fires with a choice in a state leads to one state: all that is open in a run is who goes next, and with which choice.
+pub fn one_firing()
+    ensures { FiringIsOne }
+{}
+
+/// A Tagger gives results in the order in which it gave out their tags, whatever the order in which they came back.
+pub fn tagger_keeps_order()
+    ensures { TaggerKeepsOrder }
+{}
+
+/// A typed circuit refines itself.
+pub fn refines_itself()
+    ensures { RefinesItself }
+{}
+
+/// Refinement goes on from step to step.
+pub fn refines_in_steps()
+    ensures { RefinesInSteps }
+{}
+
+/// With no circuit around it, what refines another shows nothing that the other does not.
+pub fn refines_alone()
+    ensures { RefinesAlone }
+{}
+
+/// Two typed circuits that are plugged together make a typed one.
+pub fn plugged_is_typed()
+    ensures { PlugIsTyped }
+{}
+
+/// A circuit with a part that refines another refines the circuit with the other.
+pub fn whole_refines()
+    ensures { WholeRefines }
+{}
+
+/// A circuit shows the same with a Buffer on a wire and without it.
+pub fn buffer_shows_nothing()
+    ensures dropped { DropRefines }
+    ensures put { PutRefines }
+{
+    value_fits();
+}
+
+/// A graph is typed exactly where its circuit is.
+pub fn graph_typed_as_circuit()
+    ensures circuit { CircuitIsTyped }
+    ensures graph { GraphIsTyped }
+{}
+
+/// A graph shows the same with a Buffer on a wire and without it.
+pub fn graph_buffer_shows_nothing()
+    ensures dropped { GraphDropRefines }
+    ensures put { GraphPutRefines }
+{
+    value_fits();
+}
+
+/// The definitions are met and refuse: a wire from an Entry to an Exit shows a token that is fed and then taken, and none that is taken first.
+pub fn wire_shows_tokens()
+    ensures typed { WireIsTyped }
+    ensures token { WireShowsToken }
+    ensures no_other { WireShowsNoOther }
+{}
+
+/// An input has at most one root, and that of a Buffer that is wired to itself has none.
+pub fn one_root()
+    ensures one { RootIsOne }
+    ensures none { RingHasNoRoot }
+{}
+
+/// The Buffers and Forks that Inits lead to may fire in any order: a circuit has at most one rest state, a graph has one, and with no Init it is the start.
+pub fn one_rest()
+    ensures one { RestIsOne }
+    ensures graph { GraphRests }
+    ensures without_init { RestsWithoutInit }
+{}
+
+/// What a circuit drains it drains without a Buffer.
+pub fn buffer_keeps_drains()
+    ensures circuit { DropDrains }
+    ensures graph { GraphDropDrains }
+{}
+
+/// The definition of drains is met and refuses: a wire from an Entry to an Exit drains tokens that fit to themselves, and to nothing else.
+pub fn wire_drains_tokens()
+    ensures { WireDrains }
+{}
+
+/// The definition of a Tagger is met and refuses: two tokens go out with two tags, and the results leave in their order although the second comes back first;
+/// while the first is not back, none leaves.
+pub fn tagger_shows_results()
+    ensures typed { TaggerIsTyped }
+    ensures in_order { TaggerShowsInOrder }
+    ensures no_other { TaggerShowsNoOther }
+{}
+
+/// The definitions of rest and drains are met and refuse where an Init leads: its value passes the Buffer behind it, and bits drain to the value followed by them,
+/// and to nothing else.
+pub fn init_drains_bits()
+    ensures typed { InitIsTyped }
+    ensures rests { InitRests }
+    ensures drains { InitDrains }
+{}

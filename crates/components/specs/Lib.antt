@@ -1,0 +1,11 @@
+pub mod Name
+pub mod Lookups
+pub mod Orders
+pub mod Kind
+pub mod Component
+pub mod Numbered
+pub mod Node
+pub mod NamedGraph
+pub mod Wired
+pub mod Fields
+pub mod Laws

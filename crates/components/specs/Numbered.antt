@@ -1,0 +1,23 @@
+-- The ports of a side have the numbers from 1 to their count.
+use Rattle.std.proofs.Common.{◌≡◌, ℕ, zero, suc, ◌<◌, ◌≤◌, true, List, [], ◌∷◌, length, is_some, refl, sym, true≢false}
+use Rattle.std.proofs.Math.Bridge.{no_suc-le-zero}
+use Rattle.std.proofs.Math.Nat.{le_refl, suc-le-suc_iff, zero-lt-suc}
+use Rattle.components.specs.Name.{port_get}
+
+-- the number of a port that is there
+pub record Within {A : Type 0} (xs : List A) (i : ℕ) : Type 0 where
+  pub some : 1 ≤ i
+  pub few : i ≤ length xs
+
+pub within : {A : Type 0} (xs : List A) (i : ℕ) → is_some (port_get xs i) ≡ true → Within xs i
+within [] i e = absurd (true≢false (sym e))
+within (x ∷ xs) zero e = absurd (true≢false (sym e))
+within (x ∷ xs) (suc zero) e = record { some = le_refl 1; few = zero-lt-suc (length xs) }
+within (x ∷ xs) (suc (suc i)) e = record { some = zero-lt-suc (suc i); few = suc-le-suc_iff.1 (within xs (suc i) e).few }
+
+pub there : {A : Type 0} (xs : List A) (i : ℕ) → Within xs i → is_some (port_get xs i) ≡ true
+there [] zero number = absurd (no_suc-le-zero number.some)
+there [] (suc i) number = absurd (no_suc-le-zero number.few)
+there (x ∷ xs) zero number = absurd (no_suc-le-zero number.some)
+there (x ∷ xs) (suc zero) number = refl
+there (x ∷ xs) (suc (suc i)) number = there xs (suc i) (record { some = zero-lt-suc i; few = suc-le-suc_iff.0 number.few })

@@ -1,5 +1,0 @@
-use Rattle.std.proofs.Common.{◌≡◌, ◌++◌, drop}
-use Rattle.graph_core.proofs.copying.copy_shapes.Given as goal
-
-abbrev pub invariant-loop-shape : goal.invariant-loop-shape
-invariant-loop-shape l = l.copies.items ++ drop l.shape-index l.shapes ≡ l.shapes

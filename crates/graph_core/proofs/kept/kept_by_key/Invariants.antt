@@ -1,5 +1,0 @@
-use Rattle.graph_core.proofs.KeptPairs.{ArePairs, so_far}
-use Rattle.graph_core.proofs.kept.kept_by_key.Given as goal
-
-abbrev pub invariant-loop-pair : goal.invariant-loop-pair
-invariant-loop-pair l = ArePairs l.kept.entries (so_far l.kind l.pairs l.pair-index)

@@ -1,8 +1,0 @@
-use Rattle.module_sem.proofs.Dropped.{dropped, put}
-use Rattle.module_sem.proofs.buffer_shows_nothing.Goals as goal
-
-pub returns-clause-dropped : goal.returns-clause-dropped
-returns-clause-dropped c = dropped c.value_fits.ensures
-
-pub returns-clause-put : goal.returns-clause-put
-returns-clause-put c = put c.value_fits.ensures

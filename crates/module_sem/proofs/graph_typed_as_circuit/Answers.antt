@@ -1,8 +1,0 @@
-use Rattle.module_sem.proofs.GraphCircuits.{circuit_typed, graph_typed}
-use Rattle.module_sem.proofs.graph_typed_as_circuit.Goals as goal
-
-pub returns-clause-circuit : goal.returns-clause-circuit
-returns-clause-circuit c = circuit_typed
-
-pub returns-clause-graph : goal.returns-clause-graph
-returns-clause-graph c = graph_typed
