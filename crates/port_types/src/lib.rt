@@ -35,7 +35,7 @@ pub use numeral::{read_decimal, read_hexadecimal, read_numeral};
 pub use port::{Port, PortFault};
 pub use port_reading::{read_port_name, read_ports, text_behind};
 pub use port_text::{print_port_name, print_ports};
-pub use shape::{MAX_FIELDS, Shape, is_shape};
+pub use shape::{MAX_FIELDS, Shape, is_shape, same_shape};
 pub use side::Side;
 pub use tag::tag_width;
 pub use text::Text;

@@ -70,3 +70,10 @@ impl Shape {
         self.widths.as_slice()
     }
 }
+
+/// Whether two shapes have the same widths.
+pub fn same_shape(a: &Shape, b: &Shape) -> bool
+    ensures { IsTrue result ↔ (a.now ≡ b.now) }
+{
+    a == b
+}

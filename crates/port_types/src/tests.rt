@@ -1,7 +1,7 @@
 use crate::{
-    Items, NoMemory, Port, PortFault, Shape, Side, Text, Token, fits, is_shape,
-    print_port_name, print_ports, read_decimal, read_hexadecimal, read_numeral, read_port_name,
-    read_ports, tag_width, text_behind,
+    Items, NoMemory, Port, PortFault, Shape, Side, Text, Token, fits, is_shape, print_port_name,
+    print_ports, read_decimal, read_hexadecimal, read_numeral, read_port_name, read_ports,
+    same_shape, tag_width, text_behind,
 };
 use std::alloc::{AllocError, AllocFailed, Global};
 use std::test::Fail;
@@ -132,7 +132,7 @@ fn shapes(rt: HostRuntime) -> Result<(), Fail> {
     let shape = shape_of(alloc, &[4, 32])?;
     let copy = shape.clone()?;
     assert_eq!(rt; copy.widths(), [4, 32].as_slice());
-    assert!(rt; shape == copy && shape != shape_of(alloc, &[32, 4])?);
+    assert!(rt; same_shape(&shape, &copy) && !same_shape(&shape, &shape_of(alloc, &[32, 4])?));
     Ok(())
 }
 
