@@ -1,6 +1,7 @@
 pub mod Name
 pub mod Lookups
 pub mod Orders
+pub mod Entries
 pub mod Kind
 pub mod Component
 pub mod Numbered

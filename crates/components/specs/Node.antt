@@ -5,7 +5,7 @@ use Rattle.std.specs.FinMap.{FinMap, from_entries}
 use Rattle.components.specs.declared.kind.Kind.{Kind}
 use Rattle.components.specs.declared.kind.Kind.TheVariants.{Entry, Exit, Buffer, Fork, Join, Split, Operator, Constant, Source0, Sink0, Mux, Branch, Merge, CtrlMerge, Init, Tagger}
 use Rattle.components.specs.declared.node.Node.{Node}
-use Rattle.components.specs.Name.{name_cmp, IsName}
+use Rattle.components.specs.Name.{Name, name_cmp, IsName}
 use Rattle.components.specs.Kind.{KindOk}
 
 -- the keys of the attributes that the kind's row of the table names
@@ -60,3 +60,7 @@ pub record Body : Type 0 where
 
 abbrev pub body_of : Node → Body
 body_of node = record { kind = node.kind; kept = from_entries node.kept }
+
+-- a node by its name
+abbrev pub named : Node → Name × Body
+named node = (node.name, body_of node)
