@@ -1,5 +1,3 @@
-pub mod Orders
-pub mod EntryLists
 pub mod WireOrder
 pub mod WholeDocument
 pub mod PortsInOrder

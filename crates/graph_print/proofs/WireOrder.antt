@@ -10,8 +10,8 @@ use Rattle.components.specs.Kind.{Shape, ins}
 use Rattle.components.specs.Node.{Body}
 use Rattle.components.specs.NamedGraph.{NamedGraph, IsWire}
 use Rattle.graph_print.specs.PrintedWires.{wire_of, wires_from, wires_into}
-use Rattle.graph_print.proofs.Orders.{name_total, name_same, port_total, port_same}
-use Rattle.graph_print.proofs.EntryLists as lists
+use Rattle.components.specs.Orders.{name_total, name_same, port_total, port_same}
+use Rattle.components.specs.Entries as lists
 
 -- each wire joins an output and an input of nodes of the graph
 abbrev pub AreWires : NamedGraph → Type 0

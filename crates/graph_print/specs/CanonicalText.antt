@@ -16,6 +16,7 @@ use Rattle.dot_text.specs.declared.doc.DocNode.{DocNode}
 use Rattle.dot_text.specs.declared.doc.DocEdge.{DocEdge}
 use Rattle.components.specs.declared.kind.Kind.{Kind}
 use Rattle.components.specs.declared.kind.Kind.TheVariants.{Entry, Exit, Buffer, Fork, Join, Split, Operator, Constant, Source0, Sink0, Mux, Branch, Merge, CtrlMerge, Init, Tagger}
+use Rattle.components.specs.Component.{component_at, word_of}
 use Rattle.components.specs.Name.{Name, Port}
 use Rattle.components.specs.Kind.{Shape, ports}
 use Rattle.components.specs.Node.{Body}
@@ -34,30 +35,28 @@ abbrev pub mark_pairs : ℕ → List Pair
 mark_pairs zero = []
 mark_pairs (suc mark) = (codes "ooo", decimal (suc mark)) ∷ []
 
--- the table of kinds: the word of the type, and the attributes that the kind alone owns, in the order of print
-abbrev pub kind_row : Kind → List ℕ × List Pair
-kind_row (Entry shape) = (codes "Entry", [])
-kind_row (Exit shape) = (codes "Exit", [])
-kind_row (Buffer shape) = (codes "Buffer", [])
-kind_row (Fork shape count) = (codes "Fork", [])
-kind_row (Join shapes) = (codes "Join", [])
-kind_row (Split shapes) = (codes "Split", [])
-kind_row (Operator op widths width) = (codes "Operator", (codes "op", graph_word op) ∷ [])
-kind_row (Constant shape width value) = (codes "Constant", (codes "value", hexadecimal value) ∷ [])
-kind_row (Source0 shape) = (codes "Source", [])
-kind_row (Sink0 shape) = (codes "Sink", [])
-kind_row (Mux shape) = (codes "Mux", [])
-kind_row (Branch shape) = (codes "Branch", [])
-kind_row (Merge shape count) = (codes "Merge", [])
-kind_row (CtrlMerge shape count width) = (codes "CntrlMerge", [])
-kind_row (Init value mark) = (codes "Init", (codes "value", hexadecimal value) ∷ mark_pairs mark)
-kind_row (Tagger shape tags) = (codes "Tagger", (codes "tags", decimal tags) ∷ [])
-
+-- the word of the kind's component
 abbrev pub kind_word : Kind → List ℕ
-kind_word kind = (kind_row kind).0
+kind_word kind = word_of (component_at kind)
 
+-- the attributes that the kind alone owns, in the order of print
 abbrev pub own_pairs : Kind → List Pair
-own_pairs kind = (kind_row kind).1
+own_pairs (Entry shape) = []
+own_pairs (Exit shape) = []
+own_pairs (Buffer shape) = []
+own_pairs (Fork shape count) = []
+own_pairs (Join shapes) = []
+own_pairs (Split shapes) = []
+own_pairs (Operator op widths width) = (codes "op", graph_word op) ∷ []
+own_pairs (Constant shape width value) = (codes "value", hexadecimal value) ∷ []
+own_pairs (Source0 shape) = []
+own_pairs (Sink0 shape) = []
+own_pairs (Mux shape) = []
+own_pairs (Branch shape) = []
+own_pairs (Merge shape count) = []
+own_pairs (CtrlMerge shape count width) = []
+own_pairs (Init value mark) = (codes "value", hexadecimal value) ∷ mark_pairs mark
+own_pairs (Tagger shape tags) = (codes "tags", decimal tags) ∷ []
 
 -- The markers of ports: `?` where a condition or a choice is, `+` and `-` at what it chooses between.
 

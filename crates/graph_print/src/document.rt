@@ -1,11 +1,11 @@
 //! The document of a graph: its nodes in the byte order of their names, and then its wires in the byte order of the target's name and by its port.
 //! The only error of each call is want of memory.
 
-ghost use Rattle.std.specs.Prelude.{◌≡◌, ◌++◌, OnOk, IfOk, Some, map};
+ghost use Rattle.std.specs.Prelude.{◌≡◌, ◌++◌, OnOk, IfOk, map};
 ghost use Rattle.std.specs.List.{flat_map};
 ghost use Rattle.std.specs.FinMap as map_of;
-ghost use Rattle.components.specs.Node.{NodeOk};
-ghost use Rattle.graph_core.specs.GraphValue.{named_graph, node_at, named, port_named};
+ghost use Rattle.components.specs.Node.{named};
+ghost use Rattle.graph_core.specs.GraphValue.{IsNodeAt, port_of};
 ghost use Rattle.graph_print.specs.CanonicalText.{canonical_document, edge_entry};
 ghost use Rattle.graph_print.specs.PrintedWires.{wire_of, wires_into};
 ghost use Rattle.graph_print.specs.DocumentParts.{node_entries_at, edge_entries_at};
@@ -20,8 +20,9 @@ use std::alloc::Global;
 
 /// The document of a graph.
 pub(crate) fn document_of(alloc: Global, g: &Graph) -> Result<Doc, NoMemory>
-    ensures { IfOk result (λ document. document ≡ canonical_document (named_graph g.now)) }
+    ensures { IfOk result (λ document. document ≡ canonical_document g.now.graph) }
 {
+    g.is_graph();
     let ids = g.by_name(alloc)?;
     let nodes = node_entries(alloc, g, &ids)?;
     let edges = edge_entries(alloc, g, &ids)?;
@@ -83,9 +84,8 @@ fn push_edges_into(
     id: NodeId,
     node: &Node,
 ) -> Result<(), NoMemory>
-    requires live { node_at g.now id ≡ Some node.now }
-    requires right { NodeOk node.now }
-    ensures { OnOk result (edges.new.items ≡ edges.old.items ++ map edge_entry (wires_into (named_graph g.now) (named node.now))) }
+    requires { IsNodeAt g.now id node.now }
+    ensures { OnOk result (edges.new.items ≡ edges.old.items ++ map edge_entry (wires_into g.now.graph (named node.now))) }
 {
     for port in 1..=inputs(&node.kind) {
         push_edge_into(alloc, edges, g, PortAt { node: id, port }, node)?;
@@ -101,11 +101,11 @@ fn push_edge_into(
     target: PortAt,
     node: &Node,
 ) -> Result<(), NoMemory>
-    requires live { node_at g.now target.node ≡ Some node.now }
-    requires right { NodeOk node.now }
-    ensures { let port = port_named g.now target in
-        OnOk result (edges.new.items ≡ edges.old.items ++ map edge_entry (wire_of port (map_of.get (named_graph g.now).feeders port))) }
+    requires { IsNodeAt g.now target.node node.now }
+    ensures { let port = port_of g.now target in
+        OnOk result (edges.new.items ≡ edges.old.items ++ map edge_entry (wire_of port (map_of.get g.now.graph.feeders port))) }
 {
+    g.is_graph();
     if let Some(source) = g.wire_into(target) {
         if let Some(feeder) = g.node(source.node) {
             edges.push(edge_entry(alloc, &feeder.name, source.port, &node.name, target.port)?)?;

@@ -18,8 +18,8 @@ pub(crate) fn edge_entry(
 ) -> Result<DocEdge, NoMemory>
     ensures { IfOk result (λ entry. entry ≡ edge_entry (record { node = target.now; port = input }, record { node = source.now; port = output })) }
 {
-    let source = source.copy(alloc)?;
-    let target = target.copy(alloc)?;
+    let source = source.clone()?;
+    let target = target.clone()?;
     let from = print_port_name(alloc, Side::Outs, output)?;
     let to = print_port_name(alloc, Side::Ins, input)?;
     let mut pairs = Vec::new(alloc);

@@ -6,7 +6,7 @@ ghost use Rattle.components.specs.Name.{name_cmp};
 ghost use Rattle.components.specs.Node.{KeptOk};
 
 use components::{Kind, kept_by_key};
-use port_types::{NoMemory, Text, copy_pair};
+use port_types::{NoMemory, Text};
 use std::alloc::Global;
 
 /// Appends copies of what a node of this kind keeps, in the byte order of the keys. The only error is want of memory; then a part of them may have been appended.
@@ -21,7 +21,7 @@ pub(crate) fn push_kept(
 {
     let kept = kept_by_key(alloc, kind, kept)?;
     for pair in &kept {
-        pairs.push(copy_pair(alloc, pair)?)?;
+        pairs.push((*pair).clone()?)?;
     }
     Ok(())
 }

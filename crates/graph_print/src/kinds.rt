@@ -1,8 +1,8 @@
-//! How kinds are written: the words of types, the markers of ports, and the attributes that a kind alone owns.
+//! How kinds are written: the markers of ports, and the attributes that a kind alone owns.
 
 ghost use Rattle.std.specs.Prelude.{◌≡◌, ◌++◌, ◌==◌, OnOk, IfOk, Some, None, if◌then◌else◌};
 ghost use Rattle.std.specs.Fmt.{decimal};
-ghost use Rattle.graph_print.specs.CanonicalText.{kind_word, own_pairs, marker, operand_marker, hexadecimal, mark_pairs};
+ghost use Rattle.graph_print.specs.CanonicalText.{own_pairs, marker, operand_marker, hexadecimal, mark_pairs};
 
 use crate::texts::{push_pair, text_from};
 use components::Kind;
@@ -10,30 +10,6 @@ use op_table::{Op, op_name};
 use port_types::{NoMemory, Side, Text};
 use std::alloc::Global;
 use std::fmt::Write;
-
-/// The word of a kind, as the `type` of a node.
-pub fn kind_word(kind: &Kind) -> &'static str
-    ensures { result.now ≡ kind_word kind.now }
-{
-    match kind {
-        Kind::Entry(_) => "Entry",
-        Kind::Exit(_) => "Exit",
-        Kind::Buffer(_) => "Buffer",
-        Kind::Fork(..) => "Fork",
-        Kind::Join(_) => "Join",
-        Kind::Split(_) => "Split",
-        Kind::Operator(..) => "Operator",
-        Kind::Constant(..) => "Constant",
-        Kind::Source0(_) => "Source",
-        Kind::Sink0(_) => "Sink",
-        Kind::Mux(_) => "Mux",
-        Kind::Branch(_) => "Branch",
-        Kind::Merge(..) => "Merge",
-        Kind::CtrlMerge(..) => "CntrlMerge",
-        Kind::Init(..) => "Init",
-        Kind::Tagger(..) => "Tagger",
-    }
-}
 
 /// The marker of the port of this number: `?` where a condition or a choice is, `+` and `-` at what it chooses between.
 pub(crate) fn marker(kind: &Kind, side: Side, number: u8) -> Option<u8>

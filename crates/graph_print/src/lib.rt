@@ -1,7 +1,6 @@
 //! The canonical text of a graph: its nodes in the byte order of their names, and then its wires.
 //!
 //! - `text_of`: the canonical text.
-//! - `kind_word`: the word of a kind, as the `type` of a node.
 //!
 //! A node stands on a line, as `"a" [type = "Entry", out = "out1:8"];`, and so does a wire, as
 //! `"a" -> "z" [from = "out1", to = "in1"];`.
@@ -18,5 +17,4 @@ mod printer;
 mod tests;
 mod texts;
 
-pub use kinds::kind_word;
 pub use printer::text_of;

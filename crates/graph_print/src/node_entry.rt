@@ -1,16 +1,15 @@
 //! The statement of a node. The only error of each call is want of memory.
 
 ghost use Rattle.std.specs.Prelude.{◌≡◌, IfOk};
-ghost use Rattle.components.specs.Node.{NodeOk, body_of};
-ghost use Rattle.graph_core.specs.GraphValue.{named};
+ghost use Rattle.components.specs.Node.{NodeOk, body_of, named};
 ghost use Rattle.graph_print.specs.CanonicalText.{pairs_of, node_entry};
 
 use crate::kept::push_kept;
-use crate::kinds::{kind_word, push_own};
+use crate::kinds::push_own;
 use crate::ports::push_side;
 use crate::texts::{push_pair, text_from};
 use dot_text::DocNode;
-use components::Node;
+use components::{Node, component_at, word_of};
 use port_types::{Items, NoMemory, Side, Text};
 use std::alloc::Global;
 
@@ -19,7 +18,7 @@ pub(crate) fn node_entry(alloc: Global, node: &Node) -> Result<DocNode, NoMemory
     requires { NodeOk node.now }
     ensures { IfOk result (λ entry. entry ≡ node_entry (named node.now)) }
 {
-    let name = node.name.copy(alloc)?;
+    let name = node.name.clone()?;
     let pairs = pairs_of(alloc, node)?;
     Ok(DocNode { name, pairs })
 }
@@ -30,7 +29,7 @@ fn pairs_of(alloc: Global, node: &Node) -> Result<Items<(Text, Text)>, NoMemory>
     ensures { IfOk result (λ pairs. pairs ≡ pairs_of (body_of node.now)) }
 {
     let mut pairs = Vec::new(alloc);
-    let word = text_from(alloc, kind_word(&node.kind))?;
+    let word = text_from(alloc, word_of(component_at(&node.kind)))?;
     push_pair(alloc, &mut pairs, "type", word)?;
     push_side(alloc, &mut pairs, &node.kind, Side::Ins)?;
     push_side(alloc, &mut pairs, &node.kind, Side::Outs)?;

@@ -12,7 +12,7 @@ use std::alloc::Global;
 
 /// The canonical text of a graph. The only error is want of memory.
 pub fn text_of(alloc: Global, g: &Graph) -> Result<Vec<u8>, NoMemory>
-    ensures { IfOk result (λ text. text.items ≡ text_of (named_graph g.now)) }
+    ensures { IfOk result (λ text. text.items ≡ text_of g.now.graph) }
 {
     let document = document_of(alloc, g)?;
     print_doc(alloc, &document)

@@ -6,7 +6,7 @@ use crate::text_of;
 use components::{Kind, Node, is_name, kept_by_key, kind_ok};
 use graph_core::{Graph, PortAt};
 use op_table::Op;
-use port_types::{Items, Shape, Text, copy_pair};
+use port_types::{Items, Shape, Text};
 use std::alloc::Global;
 use std::test::Fail;
 
@@ -66,7 +66,7 @@ fn kept(alloc: Global, kind: &Kind, pairs: &[(&str, &str)]) -> Result<Items<(Tex
     }
     let mut kept = Vec::new(alloc);
     for pair in &kept_by_key(alloc, kind, &texts)? {
-        kept.push(copy_pair(alloc, pair)?)?;
+        kept.push((*pair).clone()?)?;
     }
     Ok(Items::new(kept))
 }

@@ -16,8 +16,8 @@ use Rattle.port_types.specs.Tag.{tag_width}
 use Rattle.components.specs.declared.kind.Kind.{Kind}
 use Rattle.components.specs.declared.kind.Kind as kind
 use Rattle.components.specs.Kind.{Shape, field, tagged}
-use Rattle.graph_read.specs.declared.component.Component.{Component}
-use Rattle.graph_read.specs.declared.component.Component as component
+use Rattle.components.specs.declared.component.Component.{Component}
+use Rattle.components.specs.declared.component.Component as component
 use Rattle.graph_read.specs.declared.fault.GraphFaultKind.{GraphFaultKind}
 use Rattle.graph_read.specs.declared.fault.GraphFaultKind.TheVariants.{BadPorts, BadOp, BadValue, BadTags}
 use Rattle.graph_read.specs.Attributes.{Pair, last_value, value_of, tags_within, tags_of}

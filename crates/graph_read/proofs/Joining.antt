@@ -1,95 +1,107 @@
--- The wire of an edge, by index and by names.
-use Rattle.std.proofs.Common.{◌≡◌, Bool, true, false, ◌||◌, Option, Some, None, IsSome, Result, Ok, Err, refl, sym, ap, ◌∙◌, codes, if◌then◌else◌}
+-- The wire of an edge, by ids and by names.
+use Rattle.std.proofs.Common.{◌≡◌, ◌≢◌, ◌⊎◌, inl, inr, Bool, true, false, ◌||◌, List, [], Option, Some, None, Result, Ok, Err, is_some, unwrap_or, refl, sym, ap, ◌∙◌, codes, if◌then◌else◌}
 use Rattle.std.specs.Prelude.{bytes_eq}
-use Rattle.std.proofs.lemmas.Option.{none-some}
+use Rattle.std.specs.FinMap as finite
+use Rattle.std.proofs.lemmas.Bool.{false_from_ne_true, true≢false, or_left, or_right}
+use Rattle.std.proofs.lemmas.Option.{none-some, same_Some}
 use Rattle.port_types.specs.declared.side.Side.{Side}
 use Rattle.port_types.specs.declared.side.Side.TheVariants.{Ins, Outs}
-use Rattle.components.specs.declared.node.Node.{Node}
+use Rattle.dot_text.specs.declared.doc.DocEdge.{DocEdge}
+use Rattle.components.specs.Kind.{Shape, ports, ins, outs}
+use Rattle.components.specs.Name.{Port, port_get}
+use Rattle.components.specs.Node.{Body}
+use Rattle.components.specs.NamedGraph.{NamedGraph, CanWire, is_wired}
+use Rattle.components.specs.Orders.{same_bytes, other_bytes}
 use Rattle.graph_core.specs.declared.place.NodeId.{NodeId}
 use Rattle.graph_core.specs.declared.place.PortAt.{PortAt}
-use Rattle.dot_text.specs.declared.doc.DocEdge.{DocEdge}
 use Rattle.graph_core.specs.declared.graph.AddWire.{AddWire}
 use Rattle.graph_core.specs.declared.graph.AddWire.TheVariants as add_wire
-use Rattle.components.specs.Kind.{Shape}
-use Rattle.components.specs.Name.{Port}
-use Rattle.components.specs.Node.{body_of}
-use Rattle.components.specs.NamedGraph.{is_wired}
-use Rattle.graph_core.specs.GraphValue.{GraphValue, node_at, name_of, shape_of, shape_at, named_graph, port_named}
-use Rattle.graph_core.specs.Wiring.{wire_fault, is_taken, fault_between}
+use Rattle.graph_core.specs.GraphValue.{GraphValue, Denotes, port_of}
+use Rattle.graph_core.specs.Wiring.{HasShape, IsWired, AreThere, Refuses}
 use Rattle.graph_read.specs.declared.fault.GraphFaultKind.{GraphFaultKind}
 use Rattle.graph_read.specs.declared.fault.GraphFaultKind.TheVariants.{UnknownPort, PortTaken, ShapeDiffers}
 use Rattle.graph_read.specs.Attributes.{last_value}
 use Rattle.graph_read.specs.GraphReading.{NamedWire, port_there, wire_between, edge_between, edge_reading}
-use Rattle.graph_read.specs.GraphSteps.{IsFound, IsEnd, HasEnds}
+use Rattle.graph_read.specs.GraphSteps.{IsEnd, HasEnds}
+use Rattle.graph_read.proofs.OpenPorts.{wired_test, test_wired}
 
--- a port with a shape is one of a live node
-pub node_shaped : (g : GraphValue) (side : Side) (p : PortAt) (shape : Shape) → shape_at g side p ≡ Some shape → IsSome (node_at g p.node)
-node_shaped g side p shape shaped = at (node_at g p.node) shaped
-  where
-    at : (o : Option Node) → shape_of o side p.port ≡ Some shape → IsSome o
-    at (Some node) e = refl
-    at None e = absurd (none-some shape e)
+-- What a wire between two ports that are there is read as
 
--- the fault of graph_core, as a fault of an edge
-abbrev pub kind_of : AddWire → GraphFaultKind
-kind_of add_wire.UnknownPort = UnknownPort
-kind_of add_wire.PortTaken = PortTaken
-kind_of add_wire.ShapeDiffers = ShapeDiffers
-kind_of add_wire.NoMemory = UnknownPort
+abbrev decided : NamedWire → Bool → Bool → Result NamedWire GraphFaultKind
+decided wire taken same = if taken then Err PortTaken else (if same then Ok wire else Err ShapeDiffers)
 
-abbrev pub as_read : NamedWire → Option AddWire → Result NamedWire GraphFaultKind
-as_read wire None = Ok wire
-as_read wire (Some fault) = Err (kind_of fault)
+module _ (g : NamedGraph) (source target : Port) (a b : Shape) (leaves : HasShape g Outs source a) (enters : HasShape g Ins target b) where
+  abbrev pub reading : Result NamedWire GraphFaultKind
+  reading = wire_between g (Some (source, a)) (Some (target, b))
 
-between : (wire : NamedWire) (a b : Shape) (taken : Bool) →
-    ◌≡◌ {A = Result NamedWire GraphFaultKind} (if taken then Err PortTaken else (if bytes_eq a b then Ok wire else Err ShapeDiffers)) (as_read wire (fault_between (Some a) (Some b) taken))
-between wire a b true = refl
-between wire a b false = same (bytes_eq a b)
-  where
-    same : (t : Bool) → ◌≡◌ {A = Result NamedWire GraphFaultKind} (if t then Ok wire else Err ShapeDiffers) (as_read wire (if t then None else Some add_wire.ShapeDiffers))
-    same true = refl
-    same false = refl
+  abbrev wire : NamedWire
+  wire = record { source = source; target = target }
 
-abbrev pub wire_at : GraphValue → PortAt → PortAt → NamedWire
-wire_at g source target = record { source = port_named g source; target = port_named g target }
+  not_taken : ¬ (IsWired g Ins target) → ¬ (IsWired g Outs source) → (is_wired g Ins target || is_wired g Outs source) ≡ false
+  not_taken into from =
+      (λ i. false_from_ne_true (is_wired g Ins target) (λ test. into (test_wired g Ins target test)) i || false_from_ne_true (is_wired g Outs source) (λ test. from (test_wired g Outs source test)) i)
 
--- the wire between two ports, by names, is what keeps it out by index
-pub same_fault : (g : GraphValue) (source target : PortAt) (a b : Shape) → shape_at g Outs source ≡ Some a → shape_at g Ins target ≡ Some b →
-    is_taken g source target ≡ (is_wired (named_graph g) Ins (port_named g target) || is_wired (named_graph g) Outs (port_named g source)) →
-    wire_between (named_graph g) (Some (port_named g source, a)) (Some (port_named g target, b)) ≡ as_read (wire_at g source target) (wire_fault g source target)
-same_fault g source target a b leaves enters taken =
-    between (wire_at g source target) a b (is_wired (named_graph g) Ins (port_named g target) || is_wired (named_graph g) Outs (port_named g source))
-    ∙ (λ i. as_read (wire_at g source target) (fault_between (sym leaves i) (sym enters i) (sym taken i)))
+  at_shape : (side : Side) (p : Port) (x y : Shape) → HasShape g side p x → (body : Body) → finite.get g.nodes p.node ≡ Some body → port_get (ports body.kind side) p.port ≡ Some y → x ≡ y
+  at_shape side p x y has body is there =
+      let one : has.0 ≡ body = same_Some has.0 body (sym has.1 ∙ is) in
+      same_Some x y (sym has.2 ∙ ap (λ (k : Body). port_get (ports k.kind side) p.port) one ∙ there)
+
+  pub joined : CanWire g source target → reading ≡ Ok wire
+  joined can =
+      let from = at_shape Outs source a can.wire.shape leaves can.wire.from can.wire.is_from can.wire.leaves in
+      let to = at_shape Ins target b can.wire.shape enters can.wire.to can.wire.is_to can.wire.enters in
+      let into : ¬ (IsWired g Ins target) = λ wired. none-some wired.0 (sym can.target_free ∙ wired.1) in
+      let free : ¬ (IsWired g Outs source) = λ wired. can.source_free wired.0 wired.1 in
+      (λ i. decided wire (not_taken into free i) (same_bytes a b (from ∙ sym to) i))
+
+  pub is_there : AreThere g source target
+  is_there = record { leaving = a; entering = b; output = leaves; input = enters }
+
+  taken_by : IsWired g Ins target ⊎ IsWired g Outs source → (is_wired g Ins target || is_wired g Outs source) ≡ true
+  taken_by (inl wired) = or_left (is_wired g Ins target) (is_wired g Outs source) (wired_test g Ins target wired)
+  taken_by (inr wired) = or_right (is_wired g Ins target) (is_wired g Outs source) (wired_test g Outs source wired)
+
+  pub port_taken : Refuses g source target add_wire.PortTaken → reading ≡ Err PortTaken
+  port_taken refused = ap (λ (t : Bool). decided wire t (bytes_eq a b)) (taken_by refused.1)
+
+  pub shape_differs : Refuses g source target add_wire.ShapeDiffers → reading ≡ Err ShapeDiffers
+  shape_differs refused =
+      let both = refused.0 in
+      let from = at_shape Outs source a both.leaving leaves both.output.0 both.output.1 both.output.2 in
+      let to = at_shape Ins target b both.entering enters both.input.0 both.input.1 both.input.2 in
+      let other : a ≢ b = λ same. refused.1 (sym from ∙ same ∙ to) in
+      (λ i. decided wire (not_taken refused.2 refused.3 i) (other_bytes a b other i))
 
 -- The ends of an edge, where both its nodes are found
 
-module _ (g : GraphValue) (edge : DocEdge) (from to : NodeId) (source_found : IsFound g edge.source from) (target_found : IsFound g edge.target to) where
+module _ (g : GraphValue) (edge : DocEdge) (from to : NodeId) (source_is : Denotes g from edge.source) (target_is : Denotes g to edge.target)
+    (source_body target_body : Body) (source_there : finite.get g.graph.nodes edge.source ≡ Some source_body) (target_there : finite.get g.graph.nodes edge.target ≡ Some target_body) where
   abbrev output : Option (Port × Shape)
-  output = port_there Outs edge.source (body_of source_found.node) (last_value (codes "from") edge.pairs)
+  output = port_there Outs edge.source source_body (last_value (codes "from") edge.pairs)
 
   abbrev input : Option (Port × Shape)
-  input = port_there Ins edge.target (body_of target_found.node) (last_value (codes "to") edge.pairs)
+  input = port_there Ins edge.target target_body (last_value (codes "to") edge.pairs)
 
-  read_between : edge_reading (named_graph g) edge ≡ wire_between (named_graph g) output input
-  read_between = λ i. edge_between (named_graph g) edge (source_found.is_there i) (target_found.is_there i)
+  read_between : edge_reading g.graph edge ≡ wire_between g.graph output input
+  read_between = λ i. edge_between g.graph edge (source_there i) (target_there i)
 
-  pub no_source : output ≡ None → edge_reading (named_graph g) edge ≡ Err UnknownPort
-  no_source none = read_between ∙ ap (λ (o : Option (Port × Shape)). wire_between (named_graph g) o input) none
+  pub no_source : output ≡ None → edge_reading g.graph edge ≡ Err UnknownPort
+  no_source none = read_between ∙ ap (λ (o : Option (Port × Shape)). wire_between g.graph o input) none
 
-  module _ (source : PortAt) (is_source : IsEnd g from Outs edge.source (body_of source_found.node) (last_value (codes "from") edge.pairs) source) where
-    pub no_target : input ≡ None → edge_reading (named_graph g) edge ≡ Err UnknownPort
-    no_target none = read_between ∙ (λ i. wire_between (named_graph g) (is_source.is_named i) (none i))
+  module _ (source : PortAt) (is_source : IsEnd Outs edge.source source_body (last_value (codes "from") edge.pairs) from source) where
+    pub no_target : input ≡ None → edge_reading g.graph edge ≡ Err UnknownPort
+    no_target none = read_between ∙ (λ i. wire_between g.graph (is_source.is_named i) (none i))
 
-    pub has_ends : (target : PortAt) → IsEnd g to Ins edge.target (body_of target_found.node) (last_value (codes "to") edge.pairs) target → HasEnds g edge source target
+    pub has_ends : (target : PortAt) → IsEnd Ins edge.target target_body (last_value (codes "to") edge.pairs) to target → HasEnds g edge source target
     has_ends target is_target =
-        let source_name : edge.source ≡ name_of (node_at g source.node) = sym (ap (λ (id : NodeId). name_of (node_at g id)) is_source.at ∙ ap name_of source_found.live ∙ source_found.is_name) in
-        let target_name : edge.target ≡ name_of (node_at g target.node) = sym (ap (λ (id : NodeId). name_of (node_at g id)) is_target.at ∙ ap name_of target_found.live ∙ target_found.is_name) in
+        let source_name : edge.source ≡ (port_of g source).node = sym (ap (λ (id : NodeId). unwrap_or (finite.get g.ids id) []) is_source.at ∙ ap (λ (o : Option _). unwrap_or o []) source_is) in
+        let target_name : edge.target ≡ (port_of g target).node = sym (ap (λ (id : NodeId). unwrap_or (finite.get g.ids id) []) is_target.at ∙ ap (λ (o : Option _). unwrap_or o []) target_is) in
         record {
           from = is_source.shape;
           to = is_target.shape;
-          leaves = is_source.is_port;
-          enters = is_target.is_port;
+          leaves = (source_body, ap (finite.get g.graph.nodes) (sym source_name) ∙ source_there, is_source.is_port);
+          enters = (target_body, ap (finite.get g.graph.nodes) (sym target_name) ∙ target_there, is_target.is_port);
           is_read =
-              read_between ∙ (λ i. wire_between (named_graph g) (is_source.is_named i) (is_target.is_named i))
-              ∙ (λ i. wire_between (named_graph g) (Some (record { node = source_name i; port = source.port }, is_source.shape)) (Some (record { node = target_name i; port = target.port }, is_target.shape)));
+              read_between ∙ (λ i. wire_between g.graph (is_source.is_named i) (is_target.is_named i))
+              ∙ (λ i. wire_between g.graph (Some (record { node = source_name i; port = source.port }, is_source.shape)) (Some (record { node = target_name i; port = target.port }, is_target.shape)));
         }

@@ -1,6 +1,6 @@
 mod Pairs
 mod Names
-mod Orders
+mod Ids
 mod Answers
 mod RowsMet
 mod AttributeRowsMet
@@ -14,8 +14,8 @@ mod NodeSteps
 mod NoPure
 mod NodeRead
 mod ReadNodes
-mod PortMaps
 mod ReadWires
 mod PortsClosed
 mod GraphRead
+mod GraphParts
 mod ReadTyped

@@ -12,7 +12,7 @@ use Rattle.components.specs.NamedGraph.{NamedGraph}
 use Rattle.graph_read.specs.declared.fault.GraphFaultKind.{GraphFaultKind}
 use Rattle.graph_read.specs.declared.fault.GraphFaultKind.TheVariants.{BadName, NameTaken, UnknownKind}
 use Rattle.graph_read.specs.Attributes.{Pair, last_value}
-use Rattle.graph_read.specs.Rows.{component_of}
+use Rattle.components.specs.Component.{component_of}
 use Rattle.graph_read.specs.NodeReading.{NodeReading, word_reading, with_kept, body_reading, within_limit, is_name, node_reading}
 use Rattle.graph_read.specs.GraphReading.{NodesReading, refusal, names_of, then_read, nodes_reading, wired}
 use Rattle.graph_read.specs.GraphLaws.{ReadHasNoPure}

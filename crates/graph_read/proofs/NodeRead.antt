@@ -18,11 +18,12 @@ use Rattle.components.specs.declared.kind.Kind.{Kind}
 use Rattle.components.specs.Kind.{Shape, KindOk}
 use Rattle.components.specs.Name.{Name}
 use Rattle.components.specs.Node.{Body, kept_of}
-use Rattle.graph_read.specs.declared.component.Component.{Component}
+use Rattle.components.specs.declared.component.Component.{Component}
 use Rattle.graph_read.specs.declared.fault.GraphFaultKind.{GraphFaultKind}
 use Rattle.graph_read.specs.declared.fault.GraphFaultKind.TheVariants.{BadName, NameTaken, NoKind, UnknownKind, MemoryNode, MemoryPort, BadPorts, TooMany}
 use Rattle.graph_read.specs.Attributes.{Pair, last_value}
-use Rattle.graph_read.specs.Rows.{Reading, component_of}
+use Rattle.components.specs.Component.{component_of}
+use Rattle.graph_read.specs.Rows.{Reading}
 use Rattle.graph_read.specs.NodeReading.{NodeReading, is_memory, is_name, shapes_in, text_reading, side_reading, ports_reading, component_reading, named_reading, word_reading, kind_reading, with_kept, body_reading, within_limit, node_reading}
 use Rattle.graph_read.specs.Laws.{AreRead, RowsAreMet}
 use Rattle.graph_read.proofs.Answers.{same_answer, refused}

@@ -17,7 +17,7 @@ use Rattle.graph_read.specs.Answers.{IsNodeRead}
 use Rattle.graph_read.specs.GraphSteps.{IsAdded}
 use Rattle.graph_read.specs.NodeReading.{NodeReading, node_reading, body_reading, within_limit, is_name}
 use Rattle.graph_read.specs.GraphReading.{names_of}
-use Rattle.graph_read.proofs.Orders.{name_total}
+use Rattle.components.specs.Orders.{name_total}
 
 either_found : {X : Type 0} (test : Bool) (x : X) (o : Option X) → (test || is_some o) ≡ is_some (cond test (Some x) o)
 either_found true x o = refl

@@ -19,7 +19,7 @@ use Rattle.components.specs.Node.{Body}
 use Rattle.graph_read.specs.NodeReading.{NodeReading, node_reading}
 use Rattle.graph_read.specs.GraphReading.{refusal, then_read, names_of, nodes_reading}
 use Rattle.graph_read.specs.Laws.{RowsAreMet}
-use Rattle.graph_read.proofs.Orders.{name_total, name_same}
+use Rattle.components.specs.Orders.{name_total, name_same}
 use Rattle.graph_read.proofs.Names.{name_to}
 use Rattle.graph_read.proofs.Answers.{same_answer, refused}
 use Rattle.graph_read.proofs.NodeRead.{IsRead, node_is_read, kind_is_ok}

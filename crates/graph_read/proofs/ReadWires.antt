@@ -19,7 +19,9 @@ use Rattle.graph_read.specs.declared.fault.GraphFaultKind.TheVariants.{UnknownNo
 use Rattle.graph_read.specs.Attributes.{last_value}
 use Rattle.graph_read.specs.GraphReading.{NamedWire, refusal, then_read, named_in, port_there, wire_between, edge_between, edge_reading, edges_reading, graph_of_nodes}
 use Rattle.graph_read.proofs.Answers.{same_answer, refused}
-use Rattle.graph_read.proofs.PortMaps.{port_cases, fed_here, fed_elsewhere, wired_where_fed}
+use Rattle.components.specs.Lookups.{get_inserted, get_not_inserted}
+use Rattle.components.specs.Orders.{port_total, port_same, port_cases}
+use Rattle.components.specs.Wired.{wired_where_fed}
 
 -- The port that an edge names
 
@@ -151,8 +153,8 @@ module _ (g : NamedGraph) (source target : Port) (can : CanWire g source target)
   fed_cases : (p a : Port) → map.get more.feeders p ≡ Some a → ((p ≡ target) × (a ≡ source)) ⊎ (map.get g.feeders p ≡ Some a)
   fed_cases p a fed =
       elim (port_cases p target) [
-        | inl here ↦ inl (here, same_Some a source (sym fed ∙ fed_here g source target p here))
-        | inr other ↦ inr (sym (fed_elsewhere g source target p other) ∙ fed)
+        | inl here ↦ inl (here, same_Some a source (sym fed ∙ get_inserted port_total port_same g.feeders target source p here))
+        | inr other ↦ inr (sym (get_not_inserted port_total port_same g.feeders target source p other) ∙ fed)
       ]
 
   more_wires : (p a : Port) → map.get more.feeders p ≡ Some a → IsWire more a p

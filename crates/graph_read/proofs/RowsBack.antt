@@ -13,10 +13,11 @@ use Rattle.port_types.specs.Tag.{tag_width}
 use Rattle.components.specs.declared.kind.Kind.{Kind}
 use Rattle.components.specs.declared.kind.Kind.TheVariants.{Entry, Exit, Buffer, Fork, Join, Split, Operator, Constant, Source0, Sink0, Mux, Branch, Merge, CtrlMerge, Init, Tagger}
 use Rattle.components.specs.Kind.{Shape, KindOk, field, tagged}
-use Rattle.graph_read.specs.declared.component.Component.{Component}
+use Rattle.components.specs.declared.component.Component.{Component}
 use Rattle.graph_read.specs.Attributes.{Pair, last_value, value_of, tags_of}
 use Rattle.graph_read.specs.Rows.{where_ports, entry_at, exit_at, all_are, are_fields, fork_at, merge_at, ctrl_merge_at, operator_named, operator_typed, operator_at, constant_of, constant_with, init_with, init_marked, start_of, mark_of, tagger_of, tagger_with, row_reading}
-use Rattle.graph_read.specs.Laws.{HasOwnPorts, MeetsRow, Says, component_at, RowsReadBack}
+use Rattle.components.specs.Component.{component_at}
+use Rattle.graph_read.specs.Laws.{HasOwnPorts, MeetsRow, Says, RowsReadBack}
 
 -- ---- tests that hold
 

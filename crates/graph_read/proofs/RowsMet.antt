@@ -9,8 +9,8 @@ use Rattle.port_types.specs.Shape.{IsShape}
 use Rattle.components.specs.declared.kind.Kind.{Kind}
 use Rattle.components.specs.declared.kind.Kind as kind
 use Rattle.components.specs.Kind.{Shape, field, AreParts}
-use Rattle.graph_read.specs.declared.component.Component.{Component}
-use Rattle.graph_read.specs.declared.component.Component as component
+use Rattle.components.specs.declared.component.Component.{Component}
+use Rattle.components.specs.declared.component.Component as component
 use Rattle.graph_read.specs.declared.fault.GraphFaultKind.{GraphFaultKind}
 use Rattle.graph_read.specs.declared.fault.GraphFaultKind.TheVariants.{BadPorts}
 use Rattle.graph_read.specs.Attributes.{Pair}

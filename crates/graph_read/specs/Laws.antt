@@ -6,29 +6,10 @@ use Rattle.port_types.specs.Shape.{IsShape}
 use Rattle.components.specs.declared.kind.Kind.{Kind}
 use Rattle.components.specs.declared.kind.Kind.TheVariants.{Entry, Exit, Buffer, Fork, Join, Split, Operator, Constant, Source0, Sink0, Mux, Branch, Merge, CtrlMerge, Init, Tagger}
 use Rattle.components.specs.Kind.{Shape, ins, outs, KindOk}
-use Rattle.graph_read.specs.declared.component.Component.{Component}
-use Rattle.graph_read.specs.declared.component.Component as component
+use Rattle.components.specs.declared.component.Component.{Component}
+use Rattle.components.specs.Component.{component_at}
 use Rattle.graph_read.specs.Attributes.{Pair, last_value, value_of, tags_of}
 use Rattle.graph_read.specs.Rows.{row_reading}
-
--- the component of a kind
-abbrev pub component_at : Kind → Component
-component_at (Entry shape) = component.TheVariants.Entry
-component_at (Exit shape) = component.TheVariants.Exit
-component_at (Buffer shape) = component.TheVariants.Buffer
-component_at (Fork shape count) = component.TheVariants.Fork
-component_at (Join shapes) = component.TheVariants.Join
-component_at (Split shapes) = component.TheVariants.Split
-component_at (Operator op widths width) = component.TheVariants.Operator
-component_at (Constant shape width value) = component.TheVariants.Constant
-component_at (Source0 shape) = component.TheVariants.Source
-component_at (Sink0 shape) = component.TheVariants.Sink
-component_at (Mux shape) = component.TheVariants.Mux
-component_at (Branch shape) = component.TheVariants.Branch
-component_at (Merge shape count) = component.TheVariants.Merge
-component_at (CtrlMerge shape count width) = component.TheVariants.CtrlMerge
-component_at (Init value mark) = component.TheVariants.Init
-component_at (Tagger shape tags) = component.TheVariants.Tagger
 
 -- exactly the ports that the kind has in a graph
 abbrev pub HasOwnPorts : Kind → List Shape → List Shape → Type 0

@@ -11,11 +11,12 @@ use Rattle.dot_text.specs.declared.doc.DocNode.{DocNode}
 use Rattle.components.specs.Kind.{Shape}
 use Rattle.components.specs.Name.{Name}
 use Rattle.components.specs.Node.{Body, kept_of}
-use Rattle.graph_read.specs.declared.component.Component.{Component}
+use Rattle.components.specs.declared.component.Component.{Component}
 use Rattle.graph_read.specs.declared.fault.GraphFaultKind.{GraphFaultKind}
 use Rattle.graph_read.specs.declared.fault.GraphFaultKind.TheVariants.{BadName, NameTaken, NoKind, UnknownKind, MemoryNode, MemoryPort, BadPorts, TooMany}
 use Rattle.graph_read.specs.Attributes.{Pair, last_value}
-use Rattle.graph_read.specs.Rows.{Reading, component_of, row_reading}
+use Rattle.components.specs.Component.{component_of}
+use Rattle.graph_read.specs.Rows.{Reading, row_reading}
 
 -- a node of a memory, which this format leaves out
 abbrev pub is_memory : List ℕ → Bool

@@ -8,42 +8,11 @@ use Rattle.port_types.specs.Tag.{tag_width}
 use Rattle.components.specs.declared.kind.Kind.{Kind}
 use Rattle.components.specs.declared.kind.Kind as kind
 use Rattle.components.specs.Kind.{Shape, field}
-use Rattle.graph_read.specs.declared.component.Component.{Component}
-use Rattle.graph_read.specs.declared.component.Component.TheVariants.{Entry, Exit, Buffer, Fork, Join, Split, Operator, Constant, Source, Sink, Mux, Branch, Merge, CtrlMerge, Init, Tagger}
+use Rattle.components.specs.declared.component.Component.{Component}
+use Rattle.components.specs.declared.component.Component.TheVariants.{Entry, Exit, Buffer, Fork, Join, Split, Operator, Constant, Source, Sink, Mux, Branch, Merge, CtrlMerge, Init, Tagger}
 use Rattle.graph_read.specs.declared.fault.GraphFaultKind.{GraphFaultKind}
 use Rattle.graph_read.specs.declared.fault.GraphFaultKind.TheVariants.{BadPorts, BadOp, BadValue, BadTags}
 use Rattle.graph_read.specs.Attributes.{Pair, last_value, value_of, tags_of}
-
--- the components, in the order of the table
-abbrev pub components : List Component
-components = Entry ∷ Exit ∷ Buffer ∷ Fork ∷ Join ∷ Split ∷ Operator ∷ Constant ∷ Source ∷ Sink ∷ Mux ∷ Branch ∷ Merge ∷ CtrlMerge ∷ Init ∷ Tagger ∷ []
-
--- the word of the table
-abbrev pub word_of : Component → List ℕ
-word_of Entry = codes "Entry"
-word_of Exit = codes "Exit"
-word_of Buffer = codes "Buffer"
-word_of Fork = codes "Fork"
-word_of Join = codes "Join"
-word_of Split = codes "Split"
-word_of Operator = codes "Operator"
-word_of Constant = codes "Constant"
-word_of Source = codes "Source"
-word_of Sink = codes "Sink"
-word_of Mux = codes "Mux"
-word_of Branch = codes "Branch"
-word_of Merge = codes "Merge"
-word_of CtrlMerge = codes "CntrlMerge"
-word_of Init = codes "Init"
-word_of Tagger = codes "Tagger"
-
--- `CtrlMerge` is a second spelling
-abbrev pub second_spelling : List ℕ → Option Component
-second_spelling word = if bytes_eq word (codes "CtrlMerge") then Some CtrlMerge else None
-
--- the component with this word
-unfoldable pub component_of : List ℕ → Option Component
-component_of word = option_or (find (λ component. bytes_eq (word_of component) word) components) (second_spelling word)
 
 abbrev pub Reading : Type 0
 Reading = Result Kind GraphFaultKind

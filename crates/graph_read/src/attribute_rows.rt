@@ -77,7 +77,7 @@ fn constant_of(
         return Err(Refused(BadValue));
     };
     match value_of(text) {
-        Some(value) => Ok(Kind::Constant(copy_of(alloc, shape)?, width, value)),
+        Some(value) => Ok(Kind::Constant(copy_of(shape)?, width, value)),
         None => Err(Refused(BadValue)),
     }
 }
@@ -162,7 +162,7 @@ fn tagger_of(
         return Err(Refused(BadTags));
     };
     match tags_of(text) {
-        Some(tags) if width == tag_width(tags) => { Ok(Kind::Tagger(copy_of(alloc, shape)?, tags)) }
+        Some(tags) if width == tag_width(tags) => { Ok(Kind::Tagger(copy_of(shape)?, tags)) }
         _ => Err(Refused(BadTags)),
     }
 }

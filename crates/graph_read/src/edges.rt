@@ -2,32 +2,24 @@
 ghost use Rattle.std.specs.Prelude.{◌≡◌, None, Some, codes, IfOk, IfErr, MatchOption};
 ghost use Rattle.std.specs.FinMap as map_of;
 ghost use Rattle.components.specs.Kind.{Shape, KindOk, ports};
-ghost use Rattle.graph_core.specs.GraphValue.{named_graph, port_named, shape_at};
 ghost use Rattle.components.specs.Name.{Name};
-ghost use Rattle.components.specs.Node.{body_of};
+ghost use Rattle.components.specs.Node.{Body};
+ghost use Rattle.graph_core.specs.GraphValue.{Denotes, port_of};
+ghost use Rattle.graph_core.specs.Wiring.{HasShape};
 ghost use Rattle.graph_read.specs.Refusals.{IsRefusal};
 ghost use Rattle.graph_read.specs.Attributes.{last_value};
 ghost use Rattle.graph_read.specs.GraphReading.{named_in, port_there, wire_between, edge_reading, edges_reading};
-ghost use Rattle.graph_read.specs.GraphSteps.{IsFound, IsPortThere, IsEnd, AreEnds, IsJoined};
+ghost use Rattle.graph_read.specs.GraphSteps.{IsPortThere, IsEnd, AreEnds, IsJoined};
 
 use crate::attributes::last_value;
 use crate::fault::GraphFaultKind::{PortTaken, ShapeDiffers, UnknownNode, UnknownPort};
 use crate::fault::StatementFault::{self, Refused};
 use crate::fault::{GraphFault, refusal_at};
-use dot_text::DocEdge;
 use components::{Kind, port_count};
+use dot_text::DocEdge;
 use graph_core::{AddWire, Graph, NodeId, PortAt};
 use port_types::{Side, Text, read_port_name};
 use std::alloc::Global;
-
-/// The node of the graph with this name.
-fn node_named(g: &Graph, name: &[u8]) -> Option<NodeId>
-    ensures { MatchOption result (map_of.get (named_graph g.now).nodes name.now ≡ None) (IsFound g.now name.now) }
-{
-    let id = g.find(name)?;
-    g.node(id)?;
-    Some(id)
-}
 
 /// The number of the port of this kind that the text names.
 fn port_number(kind: &Kind, side: Side, text: &[u8]) -> Option<u8>
@@ -41,8 +33,8 @@ fn port_number(kind: &Kind, side: Side, text: &[u8]) -> Option<u8>
 
 /// The port of a node that the last pair of this key names.
 fn end_at(g: &Graph, id: NodeId, side: Side, key: &[u8], pairs: &[(Text, Text)]) -> Option<PortAt>
-    ensures { (name : Name) (found : IsFound g.now name id)
-        → MatchOption result (port_there side name (body_of found.node) (last_value key.now pairs.now) ≡ None) (IsEnd g.now id side name (body_of found.node) (last_value key.now pairs.now)) }
+    ensures { (name : Name) (body : Body) → Denotes g.now id name → map_of.get g.now.graph.nodes name ≡ Some body
+        → MatchOption result (port_there side name body (last_value key.now pairs.now) ≡ None) (IsEnd side name body (last_value key.now pairs.now) id) }
 {
     let node = g.node(id)?;
     let text = last_value(key, pairs)?;
@@ -54,10 +46,11 @@ fn end_at(g: &Graph, id: NodeId, side: Side, key: &[u8], pairs: &[(Text, Text)])
 fn ends_of(g: &Graph, edge: &DocEdge) -> Result<(PortAt, PortAt), StatementFault>
     ensures { AreEnds g.now edge.now result }
 {
-    let Some(from) = node_named(g, edge.source.bytes()) else {
+    g.is_graph();
+    let Some(from) = g.find(edge.source.bytes()) else {
         return Err(Refused(UnknownNode));
     };
-    let Some(to) = node_named(g, edge.target.bytes()) else {
+    let Some(to) = g.find(edge.target.bytes()) else {
         return Err(Refused(UnknownNode));
     };
     let pairs = edge.pairs.as_slice();
@@ -72,8 +65,9 @@ fn ends_of(g: &Graph, edge: &DocEdge) -> Result<(PortAt, PortAt), StatementFault
 
 /// Joins an output to an input, which are there.
 fn join(g: &mut Graph, source: PortAt, target: PortAt) -> Result<(), StatementFault>
-    ensures joined { (a b : Shape) → shape_at g.old Side.Outs source ≡ Some a → shape_at g.old Side.Ins target ≡ Some b
-        → IsJoined (wire_between (named_graph g.old) (Some (port_named g.old source, a)) (Some (port_named g.old target, b))) (named_graph g.old) (named_graph g.new) result }
+    ensures joined { (a b : Shape) → HasShape g.old.graph Side.Outs (port_of g.old source) a → HasShape g.old.graph Side.Ins (port_of g.old target) b
+        → IsJoined (wire_between g.old.graph (Some (port_of g.old source, a)) (Some (port_of g.old target, b))) g.old.graph g.new.graph result }
+    ensures ids { g.new.ids ≡ g.old.ids }
     ensures slots { g.new.slots ≡ g.old.slots }
 {
     match g.add_wire(source, target) {
@@ -87,7 +81,8 @@ fn join(g: &mut Graph, source: PortAt, target: PortAt) -> Result<(), StatementFa
 
 /// Adds the wire of an edge.
 fn add_edge(g: &mut Graph, edge: &DocEdge) -> Result<(), StatementFault>
-    ensures joined { IsJoined (edge_reading (named_graph g.old) edge.now) (named_graph g.old) (named_graph g.new) result }
+    ensures joined { IsJoined (edge_reading g.old.graph edge.now) g.old.graph g.new.graph result }
+    ensures ids { g.new.ids ≡ g.old.ids }
     ensures slots { g.new.slots ≡ g.old.slots }
 {
     let (source, target) = ends_of(g, edge)?;
@@ -96,8 +91,9 @@ fn add_edge(g: &mut Graph, edge: &DocEdge) -> Result<(), StatementFault>
 
 /// Adds the wires of edges, or answers the first refusal, with the place of the edge among them, counted from 1, and the name of its target.
 pub(crate) fn add_edges(alloc: Global, g: &mut Graph, edges: &[DocEdge]) -> Result<(), GraphFault>
-    ensures ok { IfOk result (λ _. edges_reading (named_graph g.old) 1 edges.now ≡ Ok (named_graph g.new)) }
-    ensures refused { IfErr result (IsRefusal (edges_reading (named_graph g.old) 1 edges.now)) }
+    ensures ok { IfOk result (λ _. edges_reading g.old.graph 1 edges.now ≡ Ok g.new.graph) }
+    ensures refused { IfErr result (IsRefusal (edges_reading g.old.graph 1 edges.now)) }
+    ensures ids { g.new.ids ≡ g.old.ids }
     ensures slots { g.new.slots ≡ g.old.slots }
 {
     for (index, edge) in edges.iter().enumerate() {

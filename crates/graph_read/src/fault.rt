@@ -107,13 +107,13 @@ pub(crate) fn refusal_at(
     let StatementFault::Refused(kind) = fault else {
         return GraphFault::NoMemory;
     };
-    match name.copy(alloc) {
+    match name.clone() {
         Ok(name) => GraphFault::Refused(GraphRefusal {
             kind,
             place,
             name,
             port_open: None,
         }),
-        Err(NoMemory) => GraphFault::NoMemory,
+        Err(_) => GraphFault::NoMemory,
     }
 }

@@ -4,7 +4,7 @@ ghost use Rattle.std.specs.FinMap.{from_entries};
 ghost use Rattle.components.specs.Node.{KeptOk, kept_of};
 
 use components::{Kind, kept_by_key};
-use port_types::{Items, NoMemory, Text, copy_pair};
+use port_types::{Items, NoMemory, Text};
 use std::alloc::Global;
 
 /// The pairs that a node of this kind keeps, as texts of their own: of each key that the kind does not own, the last. The only error is want of memory.
@@ -18,7 +18,7 @@ pub(crate) fn kept_of(
 {
     let mut kept = Vec::new(alloc);
     for pair in &kept_by_key(alloc, kind, pairs)? {
-        kept.push(copy_pair(alloc, pair)?)?;
+        kept.push((*pair).clone()?)?;
     }
     Ok(Items::new(kept))
 }

@@ -11,7 +11,6 @@
 
 mod attribute_rows;
 mod attributes;
-mod component;
 mod edges;
 mod fault;
 mod graph;

@@ -14,14 +14,13 @@ ghost use Rattle.graph_read.specs.Attributes.{last_value};
 ghost use Rattle.graph_read.specs.NodeReading.{is_memory, has_star, shapes_in, side_reading, component_reading, kind_reading, body_reading, is_name};
 
 use crate::attributes::last_value;
-use crate::component::{Component, component_of};
 use crate::fault::GraphFaultKind::{BadPorts, MemoryNode, MemoryPort, NoKind, UnknownKind};
 use crate::fault::StatementFault::{self, Refused};
 use crate::kept::kept_of;
 use crate::laws::rows_are_met;
 use crate::rows::kind_at;
+use components::{Component, Kind, Node, component_of, is_name};
 use dot_text::DocNode;
-use components::{Kind, Node};
 use port_types::{Items, Port, PortFault, Shape, Side, Text, read_ports, reads_ports};
 use std::alloc::Global;
 
@@ -32,7 +31,7 @@ pub(crate) fn has_allowed_name(statement: &DocNode) -> bool
 {
     // A proof knows that a `Text` is UTF-8 once its bytes are read.
     let _ = statement.name.bytes();
-    graph_core::is_name(&statement.name)
+    is_name(&statement.name)
 }
 
 /// The node that the statement says, with its last pairs, or the first refusal that its pairs give, from `NoKind` to `BadTags`.
@@ -42,7 +41,7 @@ pub(crate) fn read_node(alloc: Global, statement: &DocNode) -> Result<Node, Stat
 {
     let pairs = statement.pairs.as_slice();
     let kind = read_kind(alloc, pairs)?;
-    let name = statement.name.copy(alloc)?;
+    let name = statement.name.clone()?;
     let kept = kept_of(alloc, &kind, pairs)?;
     Ok(Node { name, kind, kept })
 }

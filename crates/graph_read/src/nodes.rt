@@ -1,21 +1,19 @@
 //! The nodes of statements.
-ghost use Rattle.std.specs.Prelude.{◌≡◌, ◌≤◌, IfOk, IfErr, None, Ok, [], length};
-ghost use Rattle.std.specs.FinMap as map_of;
-ghost use Rattle.graph_core.specs.GraphValue.{named_graph, named_nodes};
-ghost use Rattle.components.specs.NamedGraph.{HasAllowedNames};
-ghost use Rattle.components.specs.Name.{IsName};
+ghost use Rattle.std.specs.Prelude.{◌≡◌, ◌≤◌, List, IfOk, IfErr, Ok, []};
+ghost use Rattle.components.specs.Name.{Name, IsName};
+ghost use Rattle.components.specs.Node.{Body};
 ghost use Rattle.graph_read.specs.Answers.{IsNodeRead};
 ghost use Rattle.graph_read.specs.Refusals.{IsRefusal};
-ghost use Rattle.graph_read.specs.GraphReading.{names_of, nodes_reading, graph_of_nodes};
-ghost use Rattle.graph_read.specs.NodeReading.{node_reading, body_reading, within_limit};
-ghost use Rattle.graph_read.specs.GraphSteps.{StandInOrder, IsAdded};
+ghost use Rattle.graph_read.specs.GraphReading.{nodes_reading};
+ghost use Rattle.graph_read.specs.NodeReading.{body_reading, within_limit};
+ghost use Rattle.graph_read.specs.GraphSteps.{IsAddedBehind, IsReadTo};
 
 use crate::fault::GraphFaultKind::{BadName, NameTaken, TooMany};
 use crate::fault::StatementFault::{self, Refused};
 use crate::fault::{GraphFault, refusal_at};
 use crate::node::{has_allowed_name, read_node};
-use dot_text::DocNode;
 use components::Node;
+use dot_text::DocNode;
 use graph_core::{AddNode, Graph};
 use std::alloc::Global;
 
@@ -42,7 +40,7 @@ fn add_statement(
     statement: &DocNode,
     place: usize,
 ) -> Result<(), StatementFault>
-    ensures { IsAdded (node_reading (names_of (named_nodes g.old.slots)) place statement.now) statement.now.name place g.old g.new result }
+    ensures { IsAddedBehind statement.now place g.old g.new result }
 {
     if !has_allowed_name(statement) {
         return Err(Refused(BadName));
@@ -60,13 +58,9 @@ fn add_statement(
 
 /// The graph of the nodes of statements, in their order and without wires, or the first refusal, with the place of the statement, counted from 1, and its name.
 pub(crate) fn read_nodes(alloc: Global, statements: &[DocNode]) -> Result<Graph, GraphFault>
-    ensures ok { IfOk result (λ g. nodes_reading [] 1 statements.now ≡ Ok (named_nodes g.slots)) }
+    ensures ok { IfOk result (λ g. (nodes : List (Name × Body)) × (nodes_reading [] 1 statements.now ≡ Ok nodes) × IsReadTo statements.now nodes g) }
     ensures refused { IfErr result (IsRefusal (nodes_reading [] 1 statements.now)) }
-    ensures names { IfOk result (λ g. named_graph g ≡ graph_of_nodes (named_nodes g.slots)) }
-    ensures order { IfOk result (λ g. StandInOrder g.slots statements.now) }
-    ensures named { IfOk result (λ g. HasAllowedNames (named_graph g)) }
-    ensures few { IfOk result (λ g. map_of.len (named_graph g).nodes ≤ 65536) }
-    ensures limit { IfOk result (λ _. length statements.now ≤ 65536) }
+    ensures few { IfOk result (λ g. g.slots ≤ 65536) }
 {
     let mut g = Graph::new(alloc);
     for (index, statement) in statements.iter().enumerate() {

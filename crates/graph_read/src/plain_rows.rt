@@ -15,8 +15,8 @@ pub(crate) fn entry_at(alloc: Global, ins: &[Shape], outs: &[Shape]) -> Result<K
     ensures { IsRead (entry_at ins.now outs.now) result }
 {
     match (ins, outs) {
-        ([], [shape]) => Ok(Kind::Entry(copy_of(alloc, shape)?)),
-        ([also], [shape]) if is_same(also, shape) => Ok(Kind::Entry(copy_of(alloc, shape)?)),
+        ([], [shape]) => Ok(Kind::Entry(copy_of(shape)?)),
+        ([also], [shape]) if is_same(also, shape) => Ok(Kind::Entry(copy_of(shape)?)),
         _ => Err(Refused(BadPorts)),
     }
 }
@@ -26,8 +26,8 @@ pub(crate) fn exit_at(alloc: Global, ins: &[Shape], outs: &[Shape]) -> Result<Ki
     ensures { IsRead (exit_at ins.now outs.now) result }
 {
     match (ins, outs) {
-        ([shape], []) => Ok(Kind::Exit(copy_of(alloc, shape)?)),
-        ([shape], [also]) if is_same(also, shape) => Ok(Kind::Exit(copy_of(alloc, shape)?)),
+        ([shape], []) => Ok(Kind::Exit(copy_of(shape)?)),
+        ([shape], [also]) if is_same(also, shape) => Ok(Kind::Exit(copy_of(shape)?)),
         _ => Err(Refused(BadPorts)),
     }
 }
@@ -40,7 +40,7 @@ pub(crate) fn buffer_at(
     ensures { IsRead (buffer_at ins.now outs.now) result }
 {
     match (ins, outs) {
-        ([shape], [out]) if is_same(out, shape) => Ok(Kind::Buffer(copy_of(alloc, shape)?)),
+        ([shape], [out]) if is_same(out, shape) => Ok(Kind::Buffer(copy_of(shape)?)),
         _ => Err(Refused(BadPorts)),
     }
 }
@@ -51,7 +51,7 @@ pub(crate) fn fork_at(alloc: Global, ins: &[Shape], outs: &[Shape]) -> Result<Ki
 {
     match (ins, outs) {
         ([shape], [_, ..]) if all_are(shape, outs) => {
-            Ok(Kind::Fork(copy_of(alloc, shape)?, outs.len() as u8))
+            Ok(Kind::Fork(copy_of(shape)?, outs.len() as u8))
         }
         _ => Err(Refused(BadPorts)),
     }
@@ -87,7 +87,7 @@ pub(crate) fn source_at(
     ensures { IsRead (source_at ins.now outs.now) result }
 {
     match (ins, outs) {
-        ([], [shape]) => Ok(Kind::Source0(copy_of(alloc, shape)?)),
+        ([], [shape]) => Ok(Kind::Source0(copy_of(shape)?)),
         _ => Err(Refused(BadPorts)),
     }
 }
@@ -96,7 +96,7 @@ pub(crate) fn sink_at(alloc: Global, ins: &[Shape], outs: &[Shape]) -> Result<Ki
     ensures { IsRead (sink_at ins.now outs.now) result }
 {
     match (ins, outs) {
-        ([shape], []) => Ok(Kind::Sink0(copy_of(alloc, shape)?)),
+        ([shape], []) => Ok(Kind::Sink0(copy_of(shape)?)),
         _ => Err(Refused(BadPorts)),
     }
 }
@@ -107,7 +107,7 @@ pub(crate) fn mux_at(alloc: Global, ins: &[Shape], outs: &[Shape]) -> Result<Kin
     match (ins, outs) {
         ([select, first, second], [out])
             if is_bit(select) && is_same(first, out) && is_same(second, out) => {
-            Ok(Kind::Mux(copy_of(alloc, out)?))
+            Ok(Kind::Mux(copy_of(out)?))
         }
         _ => Err(Refused(BadPorts)),
     }
@@ -123,7 +123,7 @@ pub(crate) fn branch_at(
     match (ins, outs) {
         ([shape, condition], [first, second])
             if is_bit(condition) && is_same(first, shape) && is_same(second, shape) => {
-            Ok(Kind::Branch(copy_of(alloc, shape)?))
+            Ok(Kind::Branch(copy_of(shape)?))
         }
         _ => Err(Refused(BadPorts)),
     }
@@ -134,9 +134,7 @@ pub(crate) fn merge_at(alloc: Global, ins: &[Shape], outs: &[Shape]) -> Result<K
     ensures { IsRead (merge_at ins.now outs.now) result }
 {
     match (ins, outs) {
-        ([_, ..], [out]) if all_are(out, ins) => {
-            Ok(Kind::Merge(copy_of(alloc, out)?, ins.len() as u8))
-        }
+        ([_, ..], [out]) if all_are(out, ins) => { Ok(Kind::Merge(copy_of(out)?, ins.len() as u8)) }
         _ => Err(Refused(BadPorts)),
     }
 }
@@ -155,7 +153,7 @@ pub(crate) fn ctrl_merge_at(
     };
     match index.widths() {
         [width] if !ins.is_empty() && all_are(out, ins) && tells_apart(*width, ins.len() as u8) => {
-            Ok(Kind::CtrlMerge(copy_of(alloc, out)?, ins.len() as u8, *width))
+            Ok(Kind::CtrlMerge(copy_of(out)?, ins.len() as u8, *width))
         }
         _ => Err(Refused(BadPorts)),
     }

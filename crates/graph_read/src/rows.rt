@@ -4,13 +4,12 @@ ghost use Rattle.graph_read.specs.Answers.{IsRead};
 ghost use Rattle.graph_read.specs.Rows.{row_reading};
 
 use crate::attribute_rows::{constant_at, init_at, operator_at, tagger_at};
-use crate::component::Component;
 use crate::fault::StatementFault;
 use crate::plain_rows::{
     branch_at, buffer_at, ctrl_merge_at, entry_at, exit_at, fork_at, join_at, merge_at, mux_at,
     sink_at, source_at, split_at,
 };
-use components::Kind;
+use components::{Component, Kind};
 use port_types::{Shape, Text};
 use std::alloc::Global;
 

@@ -12,7 +12,7 @@ use std::alloc::Global;
 pub(crate) fn is_same(a: &Shape, b: &Shape) -> bool
     ensures { result ≡ bytes_eq a.now b.now }
 {
-    a.widths() == b.widths()
+    a == b
 }
 
 /// Whether each of the shapes is this one.
@@ -30,10 +30,10 @@ pub(crate) fn are_fields(shapes: &[Shape]) -> bool
 }
 
 /// An equal shape of its own. The only error is want of memory.
-pub(crate) fn copy_of(alloc: Global, shape: &Shape) -> Result<Shape, StatementFault>
+pub(crate) fn copy_of(shape: &Shape) -> Result<Shape, StatementFault>
     ensures { MatchResult result (λ copy. copy ≡ shape.now) (λ fault. fault ≡ StatementFault.NoMemory) }
 {
-    Ok(shape.copy(alloc)?)
+    Ok(shape.clone()?)
 }
 
 /// Equal shapes of their own. The only error is want of memory.
@@ -42,7 +42,7 @@ pub(crate) fn copies_of(alloc: Global, shapes: &[Shape]) -> Result<Items<Shape>,
 {
     let mut copies = Vec::new(alloc);
     for shape in shapes {
-        copies.push(copy_of(alloc, shape)?)?;
+        copies.push(copy_of(shape)?)?;
     }
     Ok(Items::new(copies))
 }

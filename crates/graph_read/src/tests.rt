@@ -1,8 +1,8 @@
 use crate::attributes::{tags_of, value_of};
 use crate::node::{has_allowed_name, read_node};
 use crate::{GraphFault, graph_of, has_pure};
-use dot_text::{Doc, read_doc};
 use components::Node;
+use dot_text::{Doc, read_doc};
 use graph_core::PortAt;
 use std::alloc::Global;
 use std::fmt::Write;

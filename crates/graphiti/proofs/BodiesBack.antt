@@ -13,31 +13,12 @@ use Rattle.components.specs.Laws.{PortsAreShapes}
 use Rattle.graph_print.specs.CanonicalText.{kind_word, hexadecimal, marked_ports, pairs_of}
 use Rattle.graph_read.specs.declared.fault.GraphFaultKind.TheVariants.{MemoryPort}
 use Rattle.graph_read.specs.Attributes.{Pair, last_value}
-use Rattle.graph_read.specs.Rows.{component_of}
 use Rattle.graph_read.specs.NodeReading.{has_star, text_reading, ports_reading, component_reading, named_reading, word_reading, kind_reading, with_kept, body_reading}
-use Rattle.graph_read.specs.Laws.{component_at, Says, RowsReadBack, HexadecimalValues, DecimalTags}
+use Rattle.components.specs.Component.{component_at, WordsReadBack}
+use Rattle.graph_read.specs.Laws.{Says, RowsReadBack, HexadecimalValues, DecimalTags}
 use Rattle.graphiti.specs.CanonicalReading.{ValueFits}
 use Rattle.graphiti.proofs.PairsBack.{front, front_own, text_of_side, owned_last, says_type, says_ports, keeps}
 use Rattle.graphiti.proofs.PortsBack.{ports_read, ports_starless}
-
-word_named : (kind : Kind) → component_of (kind_word kind) ≡ Some (component_at kind)
-unfolding component_of
-word_named (Entry shape) = refl
-word_named (Exit shape) = refl
-word_named (Buffer shape) = refl
-word_named (Fork shape count) = refl
-word_named (Join shapes) = refl
-word_named (Split shapes) = refl
-word_named (Operator op widths width) = refl
-word_named (Constant shape width value) = refl
-word_named (Source0 shape) = refl
-word_named (Sink0 shape) = refl
-word_named (Mux shape) = refl
-word_named (Branch shape) = refl
-word_named (Merge shape count) = refl
-word_named (CtrlMerge shape count width) = refl
-word_named (Init value mark) = refl
-word_named (Tagger shape tags) = refl
 
 -- the pairs say of each owned key what the pairs of the kind say
 abbrev SayOwned : Kind → List Pair → Type 0
@@ -45,6 +26,7 @@ SayOwned kind pairs = (key : List ℕ) → is_owned kind key ≡ true → last_v
 
 -- what ensures that texts of numbers and ports are read
 pub record ReadingLaws : Type 0 where
+  pub words : WordsReadBack
   pub shapes : PortsAreShapes
   pub says : ReadsPorts
   pub back : ReadsBack
@@ -97,7 +79,7 @@ module _ (laws : ReadingLaws) where
 
     kind_read : kind_reading pairs ≡ Ok body.kind
     kind_read =
-        ap (λ word. word_reading word pairs) (says_type body unowned) ∙ ap (λ component. named_reading (kind_word body.kind) component pairs) (word_named body.kind)
+        ap (λ word. word_reading word pairs) (says_type body unowned) ∙ ap (λ component. named_reading (kind_word body.kind) component pairs) (laws.words (component_at body.kind))
         ∙ component_read
 
     pub body_read : body_reading pairs ≡ Ok body

@@ -17,7 +17,8 @@ use Rattle.circuits.specs.Buffers.{first_port}
 use Rattle.graphiti.specs.Stripped.{IsBufferKind, IsBuffer}
 use Rattle.graphiti.specs.Strips.{Drops, StaysAtTurn}
 use Rattle.graphiti.specs.Bypass.{IsFedBuffer}
-use Rattle.graphiti.proofs.Lookups.{port_total, port_same, get_inserted, get_retained, found_if, same_bytes}
+use Rattle.components.specs.Lookups.{get_inserted, get_retained, found_if}
+use Rattle.components.specs.Orders.{port_total, port_same, same_bytes}
 use Rattle.graphiti.proofs.Dropping.{Bypasses, buffer_feeds, buffer_output, drops_bypasses, typed_after}
 use Rattle.graphiti.proofs.NodesById.{node_without}
 

@@ -7,8 +7,8 @@ use Rattle.components.specs.NamedGraph.{NamedGraph}
 use Rattle.graph_print.specs.CanonicalText.{edge_entry, canonical_document}
 use Rattle.graph_read.specs.GraphReading.{graph_of_nodes, edges_reading, unless, closed, wired, graph_reading}
 use Rattle.graphiti.specs.CanonicalReading.{CanBeReadBack, CanonicalReadsBack}
-use Rattle.graphiti.proofs.Lookups.{name_total, name_same, port_total, port_same}
-use Rattle.graphiti.proofs.MapEntries.{from_entries-entries}
+use Rattle.components.specs.Orders.{name_total, name_same, port_total, port_same}
+use Rattle.components.specs.Lookups.{from_entries-entries}
 use Rattle.graphiti.proofs.BodiesBack.{ReadingLaws, body_read}
 use Rattle.graphiti.proofs.NodesBack.{SaysBodies, nodes_back}
 use Rattle.graphiti.proofs.PortNames.{names_ports}

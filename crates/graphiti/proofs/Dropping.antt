@@ -12,7 +12,8 @@ use Rattle.components.specs.NamedGraph.{NamedGraph, IsTyped, IsWire, is_of, with
 use Rattle.circuits.specs.Buffers.{first_port}
 use Rattle.graphiti.specs.Stripped.{IsBufferKind, IsBuffer}
 use Rattle.graphiti.specs.Strips.{Drops, Turn}
-use Rattle.graphiti.proofs.Lookups.{name_total, name_same, port_total, port_same, name_cases, port_cases, get_inserted, get_not_inserted, get_removed, get_not_removed, get_retained, found_if, same_bytes, other_bytes}
+use Rattle.components.specs.Lookups.{get_inserted, get_not_inserted, get_removed, get_not_removed, get_retained, found_if}
+use Rattle.components.specs.Orders.{name_total, name_same, port_total, port_same, name_cases, port_cases, same_bytes, other_bytes}
 
 -- a Buffer with its node
 pub record BufferAt (g : NamedGraph) (name : Name) : Type 0 where

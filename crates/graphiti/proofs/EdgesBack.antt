@@ -18,9 +18,10 @@ use Rattle.components.specs.NamedGraph.{NamedGraph, IsTyped, IsWire, with_wire, 
 use Rattle.graph_print.specs.CanonicalText.{edge_entry}
 use Rattle.graph_read.specs.declared.fault.GraphFaultKind.TheVariants.{PortTaken, ShapeDiffers}
 use Rattle.graph_read.specs.GraphReading.{NamedWire, port_there, wire_between, edge_between, edge_reading, edges_reading, then_read}
-use Rattle.graphiti.proofs.EntryLists as lists
-use Rattle.graphiti.proofs.Lookups.{port_total, port_same, same_bytes}
-use Rattle.graphiti.proofs.MapEntries.{none_before, found_there, none_passes, each_entry}
+use Rattle.components.specs.Entries as lists
+use Rattle.components.specs.Orders.{port_total, port_same, same_bytes}
+use Rattle.components.specs.Entries.{none_before, found_there, each_entry}
+use Rattle.graphiti.proofs.MapEntries.{none_passes}
 
 abbrev Wire : Type 0
 Wire = Port × Port

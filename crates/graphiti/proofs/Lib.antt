@@ -1,5 +1,3 @@
-pub mod Lookups
-pub mod EntryLists
 pub mod Dropping
 pub mod Meeting
 pub mod Turning

@@ -10,8 +10,8 @@ use Rattle.std.proofs.lemmas.Bool.{or_left, or_right}
 use Rattle.std.proofs.lemmas.Option.{none-some, same_Some}
 use Rattle.std.proofs.lemmas.List.Elements.{All-from_recursion}
 use Rattle.std.proofs.lemmas.List.Folds.{list_any_none}
-use Rattle.graphiti.proofs.EntryLists as lists
-use Rattle.graphiti.proofs.Lookups.{other_test, get_not_removed}
+use Rattle.components.specs.Entries.{find_first, second, behind_other, found_behind}
+use Rattle.components.specs.Lookups.{get_not_removed}
 
 -- the value is that of the first entry, or of one behind
 at_entry : {K X : Type 0} (test : K × X → Bool) (e : K × X) (es : List (K × X)) (x : X) → test (e.0, x) ≡ true → (b : Bool) {behind : Option X} →
@@ -24,51 +24,12 @@ pub none_passes : {A : Type 0} (test : A → Bool) (xs : List A) → AllByRecurs
 none_passes test xs each = list_any_none test xs (All-from_recursion (λ x. test x ≡ false) xs each)
 
 module _ {K X : Type 0} {R : K → K → Ordering} (o : IsTotalOrder R) (same : IsAntisymmetric R) where
-  pub from_entries-entries : (m : FinMap R X) → map.from_entries (map.entries m) ≡ m
-  from_entries-entries m = map.same_map o same (map.from_entries (map.entries m)) m (λ q. map.get-from_entries o (map.entries m) q ∙ sym (map.get-entries m q))
-
-  module _ (e : K × X) (es : List (K × X)) (sorted : T (is_sorted R (e ∷ es))) (k : K) (x : X) (found : find R k es ≡ Some x) where
-    -- a key that is found behind an entry is another, and is found with the entry too
-    behind_other : k ≢ e.0
-    behind_other is = none-some x (sym (ap (λ (q : K). find R q es) is ∙ lists.find_below R e.0 es (lists.first _ _ sorted)) ∙ found)
-
-    found_behind : find R k (e ∷ es) ≡ Some x
-    found_behind = ap (λ t. cond t (Some e.1) (find R k es)) (other_test o same k e.0 behind_other) ∙ found
-
-  -- an entry of a map, with those before and behind it
-  module _ (m : FinMap R X) (before : List (K × X)) (e : K × X) (after : List (K × X)) (whole : map.entries m ≡ before ++ e ∷ after) where
-    sorted_around : T (is_sorted R (before ++ e ∷ after))
-    sorted_around = subst (λ (es : List (K × X)). T (is_sorted R es)) whole (map.entries_sorted m)
-
-    pub none_before : find R e.0 before ≡ None
-    none_before = lists.find_before R o before e after sorted_around
-
-    pub found_there : map.get m e.0 ≡ Some e.1
-    found_there = map.get-entries m e.0 ∙ ap (find R e.0) whole ∙ lists.find_here R o before e after sorted_around
-
-  -- what holds at each key that is found holds of each entry
-  pub each_entry : (P : K × X → Type 0) (es : List (K × X)) → T (is_sorted R es) → ((k : K) (x : X) → find R k es ≡ Some x → P (k, x)) → AllByRecursion P es
-  each_entry P [] sorted holds = tt
-  each_entry P (e ∷ es) sorted holds = (
-    holds e.0 e.1 (lists.find_first R o e es),
-    each_entry P es (lists.second _ _ sorted) (λ k x found. holds k x (found_behind e es sorted k x found)),
-  )
-
   -- what is found is some entry's value
   pub found_passes : (test : K × X → Bool) (q : K) (x : X) → ((k : K) → test (k, x) ≡ true) → (es : List (K × X)) → find R q es ≡ Some x → list_any test es ≡ true
   found_passes test q x passes [] found = absurd (none-some x found)
   found_passes test q x passes (e ∷ es) found = at_entry test e es x (passes e.0) (eq_by_cmp R q e.0) (found_passes test q x passes es) found
 
-  -- what holds of each entry holds of each that is found
-  pub found_entry : (P : K × X → Type 0) (es : List (K × X)) → AllByRecursion P es → (k : K) (x : X) → find R k es ≡ Some x → P (k, x)
-  found_entry P [] each k x found = absurd (none-some x found)
-  found_entry P (e ∷ es) each k x found = at_first (eq_by_cmp R k e.0) refl (found_entry P es each.1 k x) found
-    where
-      at_first : (b : Bool) → eq_by_cmp R k e.0 ≡ b → (find R k es ≡ Some x → P (k, x)) → cond b (Some e.1) (find R k es) ≡ Some x → P (k, x)
-      at_first true test later is = subst P (λ i. (sym (same k e.0 ((Equal-is (R k e.0)).0 test)) i, same_Some e.1 x is i)) each.0
-      at_first false test later is = later is
-
-  -- ---- maps within others
+  -- Maps within others
 
   holds_one : (m : FinMap R X) (k : K) (x : X) → map.get m k ≡ Some x → map.len m ≡ map.len (map.remove m k) + 1
   holds_one m k x is =
@@ -81,9 +42,9 @@ module _ {K X : Type 0} {R : K → K → Ordering} (o : IsTotalOrder R) (same : 
   few_entries : (es : List (K × X)) → T (is_sorted R es) → (m : FinMap R X) → ((k : K) (x : X) → find R k es ≡ Some x → map.get m k ≡ Some x) → length es ≤ map.len m
   few_entries [] sorted m within = omega arith
   few_entries (e ∷ es) sorted m within =
-      let one = holds_one m e.0 e.1 (within e.0 e.1 (lists.find_first R o e es)) in
-      let others = few_entries es (lists.second _ _ sorted) (map.remove m e.0) (λ k x found.
-      get_not_removed o same m e.0 k (behind_other e es sorted k x found) ∙ within k x (found_behind e es sorted k x found)) in
+      let one = holds_one m e.0 e.1 (within e.0 e.1 (find_first R o e es)) in
+      let others = few_entries es (second _ _ sorted) (map.remove m e.0) (λ k x found.
+      get_not_removed o same m e.0 k (behind_other o same e es sorted k x found) ∙ within k x (found_behind o same e es sorted k x found)) in
       omega (arith, one, others)
 
   -- a map within another has no more entries

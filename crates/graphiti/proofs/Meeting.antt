@@ -8,7 +8,7 @@ use Rattle.components.specs.Name.{Name, Port, name_cmp}
 use Rattle.components.specs.NamedGraph.{NamedGraph}
 use Rattle.circuits.specs.Buffers.{first_port}
 use Rattle.graphiti.specs.Stripped.{IsBuffer, FeedsItself, Meets, Meets.feeds, Meets.beyond, IsLastOfRing, Stays, FeedsStripped, IsStripped}
-use Rattle.graphiti.proofs.Lookups.{name_total, name_same, name_cases}
+use Rattle.components.specs.Orders.{name_total, name_same, name_cases}
 use Rattle.graphiti.proofs.Dropping.{Bypasses, node_other, same_buffer, buffer_at}
 
 -- the output is the one that was sought, or meets it through its Buffer

@@ -19,10 +19,10 @@ use Rattle.graph_print.specs.CanonicalText.{pairs_of, node_entry}
 use Rattle.graph_read.specs.declared.fault.GraphFaultKind.TheVariants.{BadName, NameTaken, TooMany}
 use Rattle.graph_read.specs.NodeReading.{NodeReading, is_name, is_name_byte, body_reading, within_limit, node_reading}
 use Rattle.graph_read.specs.GraphReading.{then_read, names_of, nodes_reading}
-use Rattle.graphiti.proofs.EntryLists as lists
-use Rattle.graphiti.proofs.Lookups.{name_total, name_same, other_bytes}
+use Rattle.components.specs.Entries as lists
+use Rattle.components.specs.Orders.{name_total, name_same, other_bytes}
 use Rattle.graphiti.proofs.Each.{each_append, each_changed}
-use Rattle.graphiti.proofs.MapEntries.{none_before, found_there}
+use Rattle.components.specs.Entries.{none_before, found_there}
 
 -- ---- the tests of a node
 

@@ -17,8 +17,9 @@ use Rattle.components.specs.Name.{Name, name_cmp}
 use Rattle.components.specs.Node.{Body, IsOwned, is_owned, kept_of}
 use Rattle.graph_print.specs.CanonicalText.{PrintedPort, kind_word, own_pairs, side_pairs, printed_side, marked_ports, pairs_of}
 use Rattle.graph_read.specs.Attributes.{Pair, last_value}
-use Rattle.graphiti.proofs.EntryLists as lists
-use Rattle.graphiti.proofs.Lookups.{name_total, name_same, name_cases, same_test, other_test, same_bytes, other_bytes}
+use Rattle.components.specs.Entries as lists
+use Rattle.components.specs.Lookups.{same_test, other_test}
+use Rattle.components.specs.Orders.{name_total, name_same, name_cases, same_bytes, other_bytes}
 use Rattle.graphiti.proofs.Each.{each_append}
 
 -- ---- values of keys

@@ -12,8 +12,9 @@ use Rattle.components.specs.Kind.{Shape, ports}
 use Rattle.components.specs.Node.{Body}
 use Rattle.components.specs.NamedGraph.{NamedGraph, IsTyped, is_wired}
 use Rattle.graph_read.specs.GraphReading.{first_free, open_port, open_refusal, first_open}
-use Rattle.graphiti.proofs.Lookups.{name_total, name_same, port_total, port_same, same_bytes}
-use Rattle.graphiti.proofs.MapEntries.{found_there, found_passes}
+use Rattle.components.specs.Orders.{name_total, name_same, port_total, port_same, same_bytes}
+use Rattle.components.specs.Entries.{found_there}
+use Rattle.graphiti.proofs.MapEntries.{found_passes}
 
 module _ (g : NamedGraph) (typed : IsTyped g) where
   -- the output feeds the wire that is there

@@ -35,15 +35,17 @@ use Rattle.graph_read.specs.declared.fault.GraphFaultKind.{GraphFaultKind}
 use Rattle.graph_read.specs.declared.fault.GraphFaultKind.TheVariants.{BadName, NameTaken, MemoryNode, MemoryPort, UnknownKind, TooMany}
 use Rattle.graph_read.specs.declared.fault.GraphRefusal.{GraphRefusal}
 use Rattle.graph_read.specs.Attributes.{Pair, last_value, value_behind}
-use Rattle.graph_read.specs.Rows.{Reading, component_of}
+use Rattle.components.specs.Component.{component_of}
+use Rattle.graph_read.specs.Rows.{Reading}
 use Rattle.graph_read.specs.NodeReading.{NodeReading, is_memory, is_name, shapes_in, text_reading, side_reading, ports_reading, component_reading, named_reading, word_reading, kind_reading, with_kept, body_reading, within_limit, node_reading}
 use Rattle.graph_read.specs.GraphReading.{refusal, graph_reading, NamedWire, NodesReading, GraphReading, then_read, names_of, nodes_reading, edge_reading, edges_reading, first_open, graph_of_nodes, unless, closed, wired}
 use Rattle.graph_read.specs.Laws.{AreRead, RowsAreMet, Says}
 use Rattle.graphiti.specs.CanonicalReading.{ValueFits, ReadFits}
 use Rattle.graphiti.specs.CanonicalTexts.{KeptTexts, ReadTexts}
-use Rattle.graphiti.proofs.Lookups.{name_total, name_same, found_if}
+use Rattle.components.specs.Lookups.{found_if}
+use Rattle.components.specs.Orders.{name_total, name_same}
 use Rattle.graphiti.proofs.Each.{each_append, each_mapped, each_changed}
-use Rattle.graphiti.proofs.MapEntries.{found_entry}
+use Rattle.components.specs.Entries.{found_entry}
 use Rattle.graphiti.proofs.PairsBack.{in_reverse}
 
 -- ---- answers

@@ -7,7 +7,7 @@ use Rattle.components.specs.NamedGraph.{NamedGraph}
 use Rattle.graphiti.specs.Behaviour.{StrippedTyped}
 use Rattle.graphiti.specs.ReadBack.{StrippedCanBeRead}
 use Rattle.graphiti.specs.Stripped.{IsStripped}
-use Rattle.graphiti.proofs.Lookups.{name_total, name_same}
+use Rattle.components.specs.Orders.{name_total, name_same}
 use Rattle.graphiti.proofs.MapEntries.{fewer_entries}
 
 module _ (g h : NamedGraph) (stripped : IsStripped g h) where

@@ -8,7 +8,8 @@ use Rattle.graphiti.specs.Stripped.{IsBuffer, IsLastOfRing, Stays, StrippedLeave
 use Rattle.graphiti.specs.Behaviour.{StrippedTyped}
 use Rattle.graphiti.specs.Strips.{TurnsStrip}
 use Rattle.graphiti.proofs.Dropping.{buffer_at, same_buffer}
-use Rattle.graphiti.proofs.Lookups.{name_total, name_same, port_total, port_same, same_by}
+use Rattle.components.specs.Lookups.{same_by}
+use Rattle.components.specs.Orders.{name_total, name_same, port_total, port_same}
 use Rattle.graphiti.proofs.Turning.{keys_rise, await_keys, turns_from}
 use Rattle.graphiti.proofs.TurnsMade.{turns_end}
 

@@ -9,8 +9,9 @@ use Rattle.components.specs.NamedGraph.{NamedGraph, IsTyped}
 use Rattle.circuits.specs.Buffers.{first_port}
 use Rattle.graphiti.specs.Stripped.{IsBuffer, FeedsItself, Meets.feeds, IsLastOfRing, FeedsStripped, IsStripped, OnlyRingsAreLeft}
 use Rattle.graphiti.specs.Strips.{StaysAtTurn, Turns}
-use Rattle.graphiti.proofs.EntryLists.{first, second, less}
-use Rattle.graphiti.proofs.Lookups.{name_total, name_same, name_cases, other_test}
+use Rattle.components.specs.Entries.{first, second, less}
+use Rattle.components.specs.Lookups.{other_test}
+use Rattle.components.specs.Orders.{name_total, name_same, name_cases}
 use Rattle.graphiti.proofs.Dropping.{Bypasses, buffer_at, buffer_cases, buffer_input, buffer_output, drops_bypasses, typed_after}
 use Rattle.graphiti.proofs.Meeting.{LesserFeedThemselves, met_from, Reaches, itself_alone, not_less_itself, not_less_back, buffer_before, buffer_other, stripped_before}
 

@@ -6,7 +6,7 @@ use Rattle.components.specs.NamedGraph.{NamedGraph, IsTyped, with_wire, without_
 use Rattle.circuits.specs.Buffers.{first_port}
 use Rattle.graphiti.specs.Stripped.{IsBuffer}
 use Rattle.graphiti.specs.Strips.{Turn, Turns, TurnsEnd}
-use Rattle.graphiti.proofs.Lookups.{name_cases}
+use Rattle.components.specs.Orders.{name_cases}
 use Rattle.graphiti.proofs.Dropping.{buffer_cases, buffer_fed, buffer_feeds, buffer_output, turn_typed}
 
 -- a node with what its turn leaves

@@ -24,9 +24,9 @@ use Rattle.components.specs.Laws.{PortsAreShapes}
 use Rattle.graph_print.specs.CanonicalText.{PrintedPort, kind_word, hexadecimal, own_pairs, side_pairs, printed_side, marked_ports, pairs_of, node_entry, edge_entry, canonical_document}
 use Rattle.graphiti.specs.CanonicalReading.{ValueFits, CanBeReadBack}
 use Rattle.graphiti.specs.CanonicalTexts.{KeptTexts, CanonicalPrints}
-use Rattle.graphiti.proofs.Lookups.{name_total, name_same, port_total, port_same}
+use Rattle.components.specs.Orders.{name_total, name_same, port_total, port_same}
 use Rattle.graphiti.proofs.Each.{each_append, each_mapped, each_changed}
-use Rattle.graphiti.proofs.MapEntries.{each_entry}
+use Rattle.components.specs.Entries.{each_entry}
 use Rattle.graphiti.proofs.PortsBack.{are_ports}
 use Rattle.graphiti.proofs.PortNames.{last_port}
 use Rattle.graphiti.proofs.WrittenTexts.{IsWritten, written, side_simple, name_simple, ports_simple, word_simple, op_simple, hexadecimal_simple, decimal_written}
