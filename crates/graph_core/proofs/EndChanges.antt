@@ -1,18 +1,17 @@
 -- Cells after a change of what stands at the other end of a port.
-use Rattle.std.proofs.Common.{◌≡◌, ◌≢◌, ◌⊎◌, inl, inr, ℕ, zero, suc, List, [], ◌∷◌, Option, Some, None, IsSome, is_some, slice_get, slice_set, refl, sym, ap, subst, ◌∙◌, true≢false}
+use Rattle.std.proofs.Common.{◌≡◌, ◌≢◌, ◌⊎◌, inl, inr, ℕ, zero, suc, List, [], ◌∷◌, Option, Some, None, IsSome, slice_get, slice_set, refl, sym, ap, ◌∙◌, true≢false}
 use Rattle.std.proofs.lemmas.Bool.{cases_eq}
 use Rattle.std.specs.Option.{option_map}
 use Rattle.std.specs.FinMap as finite
 use Rattle.port_types.specs.declared.side.Side.{Side}
 use Rattle.port_types.specs.declared.side.Side.TheVariants.{Ins, Outs}
-use Rattle.components.specs.declared.node.Node.{Node}
-use Rattle.std.proofs.lemmas.Option.{same_Some, none-some}
+use Rattle.std.proofs.lemmas.Option.{none-some}
 use Rattle.graph_core.specs.declared.place.NodeId.{NodeId}
 use Rattle.graph_core.specs.declared.place.PortAt.{PortAt}
 use Rattle.graph_core.specs.declared.cells.Cell.{Cell}
-use Rattle.graph_core.specs.Ends.{EndList, flat, with_end_of}
+use Rattle.graph_core.specs.Ends.{EndList, with_end_of}
 use Rattle.graph_core.specs.Cells.{CellsValue, ends, with_ends, cell_with, put_end, with_end}
-use Rattle.graph_core.specs.Inside.{then, node_at, kept_end, slot_at, end_at}
+use Rattle.graph_core.specs.Inside.{then, node_at, kept_end, slot_at}
 use Rattle.components.specs.Lookups.{get_inserted, get_not_inserted}
 use Rattle.graph_core.specs.Ids.{id_total, id_same, id_cases}
 use Rattle.graph_core.proofs.SlotLemmas.{set_here, set_other}

@@ -1,5 +1,5 @@
 -- What every graph is.
-use Rattle.std.proofs.Common.{◌≡◌, ◌<◌, Option, Some, None, refl, sym, ap, subst, ◌∙◌}
+use Rattle.std.proofs.Common.{◌≡◌, ◌<◌, Some, sym, ap, subst, ◌∙◌}
 use Rattle.std.specs.Option.{option_map}
 use Rattle.std.specs.FinMap as finite
 use Rattle.port_types.specs.declared.side.Side.TheVariants.{Ins, Outs}
@@ -13,7 +13,7 @@ use Rattle.graph_core.specs.declared.place.NodeId.{NodeId}
 use Rattle.graph_core.specs.declared.cells.Cell.{Cell}
 use Rattle.graph_core.specs.Names.{IdsByName}
 use Rattle.graph_core.specs.Cells.{CellsValue}
-use Rattle.graph_core.specs.GraphValue.{Denotes, IsGraph, IsSound, port_by}
+use Rattle.graph_core.specs.GraphValue.{Denotes, IsGraph, port_by}
 use Rattle.graph_core.specs.Inside.{node_at, end_at, ids_of, value_of, IsArena}
 use Rattle.graph_core.proofs.Views.{get_id, get_node, get_feeder}
 use Rattle.graph_core.proofs.Standing.{some_of, some_then, end_live, live_id, wire_behind, one_id, one_port, node_found}

@@ -1,17 +1,16 @@
 -- Two ports joined by a wire.
-use Rattle.std.proofs.Common.{◌≡◌, ◌≢◌, ◌⊎◌, inl, inr, ℕ, List, [], Option, Some, None, IsSome, is_some, refl, sym, ap, subst, ◌∙◌, true, false, true≢false}
+use Rattle.std.proofs.Common.{◌≡◌, ◌≢◌, ◌⊎◌, inl, inr, [], Option, Some, None, IsSome, is_some, refl, sym, ap, subst, ◌∙◌, false, true≢false}
 use Rattle.std.specs.Option.{option_map}
-use Rattle.std.specs.Prelude.{unwrap_or}
 use Rattle.std.specs.FinMap as finite
 use Rattle.port_types.specs.declared.side.Side.{Side}
 use Rattle.port_types.specs.declared.side.Side.TheVariants.{Ins, Outs}
 use Rattle.graph_core.specs.declared.graph.AddWire.{AddWire}
 use Rattle.graph_core.specs.declared.graph.AddWire.TheVariants.{UnknownPort, PortTaken, ShapeDiffers, NoMemory}
 use Rattle.components.specs.declared.node.Node.{Node}
-use Rattle.components.specs.Name.{Name, Port, port_get}
+use Rattle.components.specs.Name.{Port, port_get}
 use Rattle.components.specs.Kind.{Shape, ins, outs, ports}
 use Rattle.components.specs.Node.{Body, body_of}
-use Rattle.components.specs.NamedGraph.{CanWire, IsWire}
+use Rattle.components.specs.NamedGraph.{CanWire}
 use Rattle.std.proofs.lemmas.Option.{same_Some, none-some}
 use Rattle.graph_core.specs.declared.place.NodeId.{NodeId}
 use Rattle.graph_core.specs.declared.place.PortAt.{PortAt}
@@ -19,14 +18,14 @@ use Rattle.graph_core.specs.Ends.{flat}
 use Rattle.graph_core.specs.Names.{IdsByName}
 use Rattle.graph_core.specs.Cells.{CellsValue, with_end}
 use Rattle.graph_core.specs.Arena.{CanLink, HasBoth, Owns, RefusesLink, linked}
-use Rattle.graph_core.specs.GraphValue.{GraphValue, port_by, port_of, with_link}
+use Rattle.graph_core.specs.GraphValue.{port_by, with_link}
 use Rattle.graph_core.specs.Wiring.{HasShape, IsWired, AreThere, Refuses}
-use Rattle.graph_core.specs.Inside.{then, node_at, slot_at, end_at, shape_at, ids_of, body_under, feeder_under, value_of, IsArena}
+use Rattle.graph_core.specs.Inside.{then, node_at, slot_at, end_at, shape_at, ids_of, value_of, IsArena}
 use Rattle.components.specs.Orders.{name_total, name_same, port_total, port_same, port_cases}
 use Rattle.components.specs.Lookups.{get_inserted, get_not_inserted}
 use Rattle.graph_core.specs.Ids.{id_total, id_same}
 use Rattle.graph_core.proofs.Views.{get_id, get_node, get_feeder}
-use Rattle.graph_core.proofs.Standing.{some_of, some_then, end_live, port_live, port_dead, feeder_at, fed, feeds, node_found, nothing_unnamed}
+use Rattle.graph_core.proofs.Standing.{some_then, port_live, port_dead, fed, feeds, node_found, nothing_unnamed}
 use Rattle.graph_core.proofs.EndChanges.{at_cases, node_after, slot_here, slot_other, slots_after}
 
 -- Cells whose nodes are the same

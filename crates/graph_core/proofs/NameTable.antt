@@ -1,10 +1,10 @@
 -- A table of names answers as the finite map that it stands for.
-use Rattle.std.proofs.Common.{◌≡◌, ◌≢◌, ℕ, Bool, true, false, cond, inl, inr, List, [], ◌∷◌, map, Option, Some, None, bytes_eq, refl, sym, ap, ◌∙◌}
+use Rattle.std.proofs.Common.{◌≡◌, ◌≢◌, cond, inl, inr, List, [], ◌∷◌, map, Option, Some, None, bytes_eq, refl, sym, ap, ◌∙◌}
 use Rattle.std.specs.FinMap as finite
 use Rattle.std.specs.Ordering.{eq_by_cmp}
-use Rattle.std.specs.Map.{lookup, KeepsOthers, IsKeyTest, AreApart}
+use Rattle.std.specs.Map.{lookup}
 use Rattle.components.specs.Name.{Name, name_cmp}
-use Rattle.graph_core.proofs.NameLookups.{has, others_kept}
+use Rattle.graph_core.proofs.NameLookups.{has}
 use Rattle.components.specs.Orders.{name_total, name_same, name_cases, same_bytes, other_bytes}
 use Rattle.components.specs.Lookups.{same_test, other_test}
 

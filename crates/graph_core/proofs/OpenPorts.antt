@@ -1,10 +1,10 @@
 -- When a node has no open port, which of its open ports is the first, and when a graph is typed.
-use Rattle.std.proofs.Common.{◌≡◌, ◌⊎◌, inl, inr, ℕ, ◌<◌, ◌≤◌, length, Option, Some, None, IsSome, is_some, Result, Ok, Err, IsOk, IsErr, refl, sym, ap, subst, ◌∙◌, true≢false}
+use Rattle.std.proofs.Common.{◌≡◌, inl, inr, ℕ, ◌<◌, length, Some, None, is_some, Result, Ok, Err, IsOk, IsErr, refl, sym, ap, subst, ◌∙◌, true≢false}
 use Rattle.std.specs.FinMap as finite
 use Rattle.port_types.specs.declared.side.Side.{Side}
 use Rattle.port_types.specs.declared.side.Side.TheVariants.{Ins, Outs}
 use Rattle.components.specs.declared.node.Node.{Node}
-use Rattle.components.specs.Name.{Name, Port, port_get}
+use Rattle.components.specs.Name.{Port, port_get}
 use Rattle.components.specs.Kind.{Shape, ins, outs, ports}
 use Rattle.components.specs.Node.{Body, body_of}
 use Rattle.components.specs.NamedGraph.{IsTyped}
@@ -14,7 +14,7 @@ use Rattle.graph_core.specs.declared.graph.PortOpen.{PortOpen}
 use Rattle.graph_core.specs.declared.place.NodeId.{NodeId}
 use Rattle.graph_core.specs.GraphValue.{GraphValue, Denotes, IsGraph, IsNodeAt, port_of}
 use Rattle.graph_core.specs.Wiring.{HasShape, IsWired}
-use Rattle.graph_core.specs.Open.{port_at, ComesBefore, IsOpen, IsBefore, IsFirstOpen, AreWired, IsFirstFree, IsClosed, IsFirstOpenAt}
+use Rattle.graph_core.specs.Open.{port_at, ComesBefore, IsOpen, IsFirstOpen, AreWired, IsFirstFree, IsClosed, IsFirstOpenAt}
 use Rattle.graph_core.specs.Denoting.{port_denoted, denoted_by}
 use Rattle.graph_core.proofs.Link.{there_is}
 

@@ -1,5 +1,5 @@
 -- A node put into a new cell.
-use Rattle.std.proofs.Common.{◌≡◌, ◌≢◌, ◌⊎◌, inl, inr, ℕ, zero, suc, List, [], ◌∷◌, length, replicate, max, Option, Some, None, IsSome, is_some, slice_get, refl, sym, ap, subst, ◌∙◌, true≢false}
+use Rattle.std.proofs.Common.{◌≡◌, ◌≢◌, ◌⊎◌, inl, inr, ℕ, zero, suc, List, [], ◌∷◌, length, replicate, max, Option, Some, None, IsSome, is_some, refl, sym, ap, subst, ◌∙◌}
 use Rattle.std.specs.Option.{option_map}
 use Rattle.std.specs.Prelude.{unwrap_or}
 use Rattle.std.specs.FinMap as finite
@@ -8,7 +8,7 @@ use Rattle.port_types.specs.declared.side.Side.TheVariants.{Ins, Outs}
 use Rattle.components.specs.declared.node.Node.{Node}
 use Rattle.components.specs.Name.{Name, Port, port_get}
 use Rattle.components.specs.Kind.{Shape, ins, outs, ports}
-use Rattle.components.specs.Node.{Body, NodeOk, body_of}
+use Rattle.components.specs.Node.{NodeOk, body_of}
 use Rattle.std.proofs.lemmas.Option.{same_Some, none-some}
 use Rattle.graph_core.specs.declared.place.NodeId.{NodeId}
 use Rattle.graph_core.specs.declared.place.PortAt.{PortAt}
@@ -17,15 +17,15 @@ use Rattle.graph_core.specs.Ends.{flat}
 use Rattle.graph_core.specs.Names.{IdsByName}
 use Rattle.graph_core.specs.Cells.{CellsValue, bare, ends}
 use Rattle.graph_core.specs.Arena.{IsPut, ListsAt, listed_at}
-use Rattle.graph_core.specs.GraphValue.{GraphValue, port_by, with_id}
-use Rattle.graph_core.specs.Inside.{then, node_at, kept_end, slot_at, end_at, shape_at, ids_of, body_under, feeder_under, value_of, IsArena}
+use Rattle.graph_core.specs.GraphValue.{port_by, with_id}
+use Rattle.graph_core.specs.Inside.{then, node_at, kept_end, slot_at, end_at, shape_at, ids_of, value_of, IsArena}
 use Rattle.components.specs.Orders.{name_total, name_same, name_cases, port_total, port_same}
 use Rattle.components.specs.Lookups.{get_inserted, get_not_inserted, put_twice}
 use Rattle.graph_core.specs.Ids.{id_total, id_same, id_cases}
 use Rattle.graph_core.specs.Place.{id_cmp}
 use Rattle.graph_core.proofs.Tables.{len-map_values}
 use Rattle.graph_core.proofs.Views.{get_id, get_node, get_feeder}
-use Rattle.graph_core.proofs.Standing.{some_of, some_then, end_live, live_id, dead_id, wire_behind}
+use Rattle.graph_core.proofs.Standing.{some_then, end_live, live_id}
 
 -- A bare cell
 

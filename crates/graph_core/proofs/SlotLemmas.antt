@@ -1,8 +1,6 @@
 -- The cells that slots show, and the chain of free slots, after each change.
-use Rattle.std.proofs.Common.{◌≡◌, ◌≢◌, ◌⊎◌, ℕ, zero, suc, ◌+◌, ◌-◌, ◌<◌, ◌≤◌, inl, inr, List, [], ◌∷◌, ◌++◌, length, cond, Option, Some, None, is_some, slice_get, slice_set, max, refl, sym, ap, subst, ◌∙◌, arith, length-set, length-append}
-use Rattle.std.proofs.Math.Nat.{suc_inj}
+use Rattle.std.proofs.Common.{◌≡◌, ◌≢◌, ℕ, zero, suc, ◌+◌, ◌-◌, ◌<◌, ◌≤◌, inl, inr, List, [], ◌∷◌, ◌++◌, length, cond, Option, Some, None, is_some, slice_get, slice_set, max, refl, sym, ap, subst, ◌∙◌, arith, length-set, length-append}
 use Rattle.std.specs.FinMap as map
-use Rattle.std.specs.Ordering.{eq_by_cmp}
 use Rattle.std.proofs.lemmas.Option.{same_Some, none-some}
 use Rattle.port_types.specs.declared.side.Side.{Side}
 use Rattle.graph_core.specs.declared.place.NodeId.{NodeId}
@@ -11,8 +9,8 @@ use Rattle.graph_core.specs.declared.cells.Cell.{Cell}
 use Rattle.graph_core.specs.declared.cells.Slot.{Slot}
 use Rattle.graph_core.specs.declared.cells.Slot.TheVariants.{Live, Free}
 use Rattle.graph_core.specs.Place.{id_of, id_cmp}
-use Rattle.graph_core.specs.Cells.{CellsValue, cell_with, without_cell, with_end, put_end}
-use Rattle.graph_core.specs.Slots.{cell_in, next_in, live_from, shown, IsChain, IsChained, with_end_in, put_end_in}
+use Rattle.graph_core.specs.Cells.{CellsValue, cell_with, without_cell, put_end}
+use Rattle.graph_core.specs.Slots.{cell_in, next_in, live_from, shown, IsChain, IsChained, put_end_in}
 use Rattle.components.specs.Lookups.{same_test, other_test, get_inserted, get_not_inserted, get_removed, get_not_removed}
 use Rattle.graph_core.specs.Ids.{id_total, id_same, id_cases}
 

@@ -1,5 +1,5 @@
 -- What looking up in a graph answers.
-use Rattle.std.proofs.Common.{◌≡◌, ◌≢◌, ◌⊎◌, inl, inr, ℕ, ◌≤◌, List, [], length, Option, Some, None, MatchOption, is_some, refl, sym, ap, subst, ◌∙◌, arith}
+use Rattle.std.proofs.Common.{◌≡◌, ◌≢◌, ◌≤◌, [], length, Option, Some, None, MatchOption, is_some, refl, sym, ap, ◌∙◌, arith}
 use Rattle.std.specs.Option.{option_map}
 use Rattle.std.specs.Prelude.{unwrap_or}
 use Rattle.std.specs.FinMap as finite
@@ -8,7 +8,7 @@ use Rattle.port_types.specs.declared.side.Side.TheVariants.{Ins, Outs}
 use Rattle.components.specs.declared.node.Node.{Node}
 use Rattle.components.specs.Name.{Name, Port, name_cmp, port_cmp, port_get}
 use Rattle.components.specs.Kind.{ports}
-use Rattle.components.specs.Node.{Body, NodeOk, body_of}
+use Rattle.components.specs.Node.{body_of}
 use Rattle.std.proofs.lemmas.Option.{same_Some, none-some}
 use Rattle.graph_core.specs.declared.place.NodeId.{NodeId}
 use Rattle.graph_core.specs.declared.place.PortAt.{PortAt}
@@ -19,8 +19,8 @@ use Rattle.graph_core.specs.Place.{id_cmp}
 use Rattle.components.specs.Orders.{name_total, name_same, port_total, port_same}
 use Rattle.graph_core.specs.Ids.{id_total, id_same}
 use Rattle.graph_core.specs.Cells.{CellsValue, ends}
-use Rattle.graph_core.specs.GraphValue.{GraphValue, Denotes, IsNodeAt, no_nodes, port_by, port_of}
-use Rattle.graph_core.specs.Inside.{then, node_at, kept_end, slot_at, end_at, ids_of, body_under, feeder_under, value_of, IsArena}
+use Rattle.graph_core.specs.GraphValue.{Denotes, IsNodeAt, no_nodes, port_by, port_of}
+use Rattle.graph_core.specs.Inside.{then, node_at, kept_end, slot_at, end_at, ids_of, feeder_under, value_of, IsArena}
 use Rattle.graph_core.proofs.Views.{get_id, get_node, get_feeder}
 
 pub some_of : {A B : Type 0} (f : A → B) (o : Option A) (y : B) → option_map f o ≡ Some y → (x : A) × (o ≡ Some x) × (f x ≡ y)

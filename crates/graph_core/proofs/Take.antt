@@ -1,14 +1,14 @@
 -- A node taken out with the wires at its ports.
-use Rattle.std.proofs.Common.{◌≡◌, ◌≢◌, ◌⊎◌, inl, inr, ℕ, zero, suc, Bool, true, false, not, ◌||◌, cond, List, Option, Some, None, IsSome, IfSome, is_some, bytes_eq, slice_get, refl, sym, ap, subst, ◌∙◌, true≢false}
+use Rattle.std.proofs.Common.{◌≡◌, ◌≢◌, inl, inr, ℕ, zero, suc, Bool, true, false, not, ◌||◌, cond, Option, Some, None, IfSome, is_some, slice_get, refl, sym, ap, ◌∙◌, true≢false}
 use Rattle.std.specs.Option.{option_map}
 use Rattle.std.specs.Prelude.{unwrap_or, []}
 use Rattle.std.specs.FinMap as finite
 use Rattle.port_types.specs.declared.side.Side.{Side}
 use Rattle.port_types.specs.declared.side.Side.TheVariants.{Ins, Outs}
 use Rattle.components.specs.declared.node.Node.{Node}
-use Rattle.components.specs.Name.{Name, Port, name_cmp, port_get}
-use Rattle.components.specs.Kind.{Shape, ports}
-use Rattle.components.specs.Node.{Body, body_of}
+use Rattle.components.specs.Name.{Name, Port, port_get}
+use Rattle.components.specs.Kind.{ports}
+use Rattle.components.specs.Node.{body_of}
 use Rattle.components.specs.NamedGraph.{is_of, without_node}
 use Rattle.std.proofs.lemmas.Option.{same_Some, none-some}
 use Rattle.graph_core.specs.declared.place.NodeId.{NodeId}
@@ -18,14 +18,14 @@ use Rattle.graph_core.specs.Ends.{EndList, flat}
 use Rattle.graph_core.specs.Names.{IdsByName}
 use Rattle.graph_core.specs.Cells.{CellsValue, ends, without_cell}
 use Rattle.graph_core.specs.Arena.{cut_ends, without_wired, unlisted}
-use Rattle.graph_core.specs.GraphValue.{GraphValue, Denotes, port_by, without_id}
-use Rattle.graph_core.specs.Inside.{then, node_at, kept_end, slot_at, end_at, shape_at, ids_of, body_under, feeder_under, value_of, IsArena}
+use Rattle.graph_core.specs.GraphValue.{Denotes, port_by, without_id}
+use Rattle.graph_core.specs.Inside.{then, node_at, kept_end, slot_at, end_at, shape_at, ids_of, value_of, IsArena}
 use Rattle.components.specs.Orders.{name_total, name_same, name_cases, port_total, port_same, other_bytes, same_bytes}
 use Rattle.components.specs.Lookups.{get_removed, get_not_removed, get_retained, found_if, same_by}
 use Rattle.graph_core.specs.Ids.{id_total, id_same, id_cases}
 use Rattle.graph_core.proofs.Views.{get_id, get_node, get_feeder}
 use Rattle.graph_core.proofs.Standing.{some_then, some_flat, end_live, live_id, dead_id, port_live, fed, wire_behind, one_id}
-use Rattle.graph_core.proofs.Put.{node_off, slot_off, shape_off}
+use Rattle.graph_core.proofs.Put.{node_off, slot_off}
 use Rattle.graph_core.proofs.Cutting.{outs_not_ins, ins_not_outs, cut_node, cut_slots, cut_room, cut_other, cut_only, cut_keeps, cut_gone}
 
 neither : (a b : Bool) → not (a || b) ≡ true → (a ≡ false) × (b ≡ false)

@@ -1,12 +1,9 @@
 -- What a graph's value answers, by its cells and its table of names.
-use Rattle.std.proofs.Common.{◌≡◌, ◌≢◌, ◌⊎◌, inl, inr, ℕ, zero, suc, ◌+◌, Bool, true, false, ◌||◌, List, [], ◌∷◌, ◌++◌, cond, map, length, Option, Some, None, IsSome, is_some, slice_get, refl, sym, ap, subst, ◌∙◌, true≢false, arith}
+use Rattle.std.proofs.Common.{◌≡◌, inl, inr, ℕ, zero, suc, ◌+◌, Bool, true, false, ◌||◌, List, [], ◌∷◌, ◌++◌, cond, Option, Some, None, IsSome, is_some, slice_get, refl, sym, ap, subst, ◌∙◌, true≢false, arith}
 use Rattle.std.specs.Option.{option_map}
-use Rattle.std.specs.Prelude.{unwrap_or}
 use Rattle.std.specs.List.{list_any}
 use Rattle.std.specs.FinMap as finite
-use Rattle.port_types.specs.declared.side.Side.{Side}
-use Rattle.port_types.specs.declared.side.Side.TheVariants.{Ins, Outs}
-use Rattle.components.specs.declared.node.Node.{Node}
+use Rattle.port_types.specs.declared.side.Side.TheVariants.{Ins}
 use Rattle.components.specs.Name.{Name, Port, name_cmp, port_cmp}
 use Rattle.components.specs.Node.{Body, body_of}
 use Rattle.std.proofs.lemmas.Option.{same_Some, none-some}
@@ -16,7 +13,7 @@ use Rattle.graph_core.specs.declared.cells.Cell.{Cell}
 use Rattle.graph_core.specs.Ends.{EndList, flat}
 use Rattle.graph_core.specs.Names.{IdsByName}
 use Rattle.graph_core.specs.Cells.{CellsValue}
-use Rattle.graph_core.specs.GraphValue.{GraphValue, Ids, port_by}
+use Rattle.graph_core.specs.GraphValue.{port_by}
 use Rattle.graph_core.specs.Inside.{then, node_at, kept_end, slot_at, end_at, ids_of, body_under, feeder_under, inputs_from, ins_in, inputs_of, value_of}
 use Rattle.components.specs.Orders.{name_total, name_same, port_total, port_same, name_cases}
 use Rattle.components.specs.Lookups.{same_test, other_test}

@@ -1,5 +1,5 @@
 -- Nodes by id, with what stands at the other ends of their ports.
-use Rattle.std.specs.Prelude.{◌≡◌, ℕ, Option, Some, None, length, replicate, refl}
+use Rattle.std.specs.Prelude.{ℕ, Option, Some, None, length, replicate, refl}
 use Rattle.std.specs.FinMap as map
 use Rattle.std.specs.Coded.{Coded, code_by, coded×, coded_ℕ}
 use Rattle.port_types.specs.declared.side.Side.{Side}
@@ -12,7 +12,7 @@ use Rattle.graph_core.specs.declared.cells.Cell.{Cell}
 use Rattle.graph_core.specs.contracts.place.NodeId as node_id
 use Rattle.graph_core.specs.contracts.cells.Cell as cell
 use Rattle.graph_core.specs.Place.{id_cmp}
-use Rattle.graph_core.specs.Ends.{EndList, end_of, with_end_of}
+use Rattle.graph_core.specs.Ends.{EndList, with_end_of}
 
 -- the cell of each live node by its id, and how many slots there are
 pub record CellsValue : Type 0 where

@@ -5,7 +5,7 @@ use Rattle.std.specs.FinMap as map
 use Rattle.port_types.specs.declared.side.Side.{Side}
 use Rattle.port_types.specs.declared.side.Side.TheVariants.{Ins, Outs}
 use Rattle.components.specs.declared.node.Node.{Node}
-use Rattle.components.specs.Name.{Name, Port, name_cmp, port_cmp, port_get}
+use Rattle.components.specs.Name.{Name, Port, port_get}
 use Rattle.components.specs.Kind.{Shape, ports}
 use Rattle.components.specs.Node.{NodeOk, Body, body_of}
 use Rattle.graph_core.specs.declared.place.NodeId.{NodeId}

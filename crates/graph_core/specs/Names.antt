@@ -1,8 +1,7 @@
 -- The table of the ids of nodes by their names.
-use Rattle.std.specs.Prelude.{ℕ, List, map}
 use Rattle.std.specs.Coded.{Coded, coded_list, coded_ℕ}
 use Rattle.std.specs.FinMap as finite
-use Rattle.components.specs.Name.{Name, name_cmp}
+use Rattle.components.specs.Name.{name_cmp}
 use Rattle.graph_core.specs.declared.place.NodeId.{NodeId}
 use Rattle.graph_core.specs.contracts.place.NodeId as id
 

@@ -7,7 +7,7 @@ use Rattle.graph_core.specs.declared.place.PortAt.{PortAt}
 use Rattle.graph_core.specs.declared.cells.Cell.{Cell}
 use Rattle.graph_core.specs.declared.cells.Slot.{Slot}
 use Rattle.graph_core.specs.declared.cells.Slot.TheVariants.{Live, Free}
-use Rattle.graph_core.specs.Place.{id_of, id_cmp}
+use Rattle.graph_core.specs.Place.{id_of}
 use Rattle.graph_core.specs.Cells.{CellsValue, cell_with}
 
 abbrev pub cell_in : Option Slot → Option Cell

@@ -1,4 +1,4 @@
-use Rattle.std.proofs.Common.{◌≡◌, ◌∙◌, Some, rules, refl, sym, ap, subst}
+use Rattle.std.proofs.Common.{◌≡◌, ◌∙◌, rules, sym, ap, subst}
 use Rattle.std.specs.FinMap as finite
 use Rattle.graph_core.specs.Arena.{ListsAt, listed_at}
 use Rattle.graph_core.specs.Cells.{bare}

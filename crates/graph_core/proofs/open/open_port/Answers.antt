@@ -1,4 +1,4 @@
-use Rattle.std.proofs.Common.{◌≡◌, inl, inr, rules, arith, sym, subst}
+use Rattle.std.proofs.Common.{inl, inr, rules, arith, sym, subst}
 use Rattle.std.proofs.lemmas.Bool.{cases_eq}
 use Rattle.graph_core.specs.GraphValue.{port_of}
 use Rattle.graph_core.specs.Open.{port_at}

@@ -1,9 +1,8 @@
-use Rattle.std.proofs.Common.{◌≡◌, ◌∙◌, ◌∷◌, ◌++◌, [], Some, None, length, max, slice_get, slice_set, rules, subst, sym, ap}
+use Rattle.std.proofs.Common.{◌≡◌, ◌∙◌, ◌∷◌, ◌++◌, [], length, max, slice_get, slice_set, rules, subst, sym, ap}
 use Rattle.std.specs.FinMap as map_of
 use Rattle.graph_core.specs.declared.cells.Slot.TheVariants.{Live}
 use Rattle.graph_core.specs.Place.{id_of}
-use Rattle.graph_core.specs.Slots.{IsChained, shown, next_in}
-use Rattle.graph_core.specs.Cells.{CellsValue}
+use Rattle.graph_core.specs.Slots.{shown, next_in}
 use Rattle.graph_core.proofs.SlotLemmas.{Added, pushed, filled_next, stands}
 use Rattle.graph_core.proofs.cells.Cells.insert.Goals as goal
 use Rattle.graph_core.proofs.cells.Cells.insert.Goals.{After-new, After-new-in-Some}

@@ -1,4 +1,4 @@
-use Rattle.std.proofs.Common.{◌≡◌, ◌∙◌, slice_get, refl, subst, sym, ap}
+use Rattle.std.proofs.Common.{◌∙◌, slice_get, refl, subst, sym, ap}
 use Rattle.graph_core.specs.Slots.{IsChained, shown}
 use Rattle.graph_core.specs.Cells.{put_end, with_end}
 use Rattle.graph_core.proofs.SlotLemmas.{rewritten, get_shown}

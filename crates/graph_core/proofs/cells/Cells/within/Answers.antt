@@ -1,4 +1,4 @@
-use Rattle.std.proofs.Common.{◌≡◌, ◌∙◌, ◌<◌, Some, slice_get, length, subst, sym, ap}
+use Rattle.std.proofs.Common.{◌∙◌, ◌<◌, subst, ap}
 use Rattle.std.specs.FinMap as map_of
 use Rattle.graph_core.proofs.SlotLemmas.{below_slots}
 use Rattle.graph_core.proofs.cells.Cells.within.Goals as goal

@@ -2,7 +2,7 @@ use Rattle.std.proofs.Common.{◌≡◌, ◌∙◌, Err, IfErr, rules, sym, ap, 
 use Rattle.components.specs.NamedGraph.{CanWire}
 use Rattle.graph_core.specs.GraphValue.{port_of, with_link}
 use Rattle.graph_core.specs.Wiring.{Refuses}
-use Rattle.graph_core.specs.Arena.{CanLink, linked}
+use Rattle.graph_core.specs.Arena.{CanLink}
 use Rattle.graph_core.specs.Inside.{IsArena, value_of}
 use Rattle.graph_core.proofs.Link.{refuses, can_wire, link_ok, link_value}
 use Rattle.graph_core.proofs.graph.Graph.add_wire.Goals as goal

@@ -1,4 +1,4 @@
-use Rattle.std.proofs.Common.{◌≡◌, ◌∙◌, rules, sym, ap, subst}
+use Rattle.std.proofs.Common.{◌≡◌, ◌∙◌, sym, subst}
 use Rattle.graph_core.specs.Inside.{IsArena, value_of}
 use Rattle.graph_core.proofs.graph.Graph.copy.Goals as goal
 use Rattle.graph_core.proofs.graph.Graph.copy.Goals.{In_ok-names}

@@ -1,9 +1,9 @@
-use Rattle.std.proofs.Common.{◌≡◌, ◌∙◌, MatchOption, None, refl, sym, ap, subst}
+use Rattle.std.proofs.Common.{◌≡◌, MatchOption, None, refl, sym, subst}
 use Rattle.std.specs.FinMap as finite
 use Rattle.components.specs.Name.{Name}
-use Rattle.graph_core.specs.Arena.{without_wired, unlisted}
+use Rattle.graph_core.specs.Arena.{without_wired}
 use Rattle.graph_core.specs.GraphValue.{Denotes, IsNodeAt, without_id}
-use Rattle.graph_core.specs.Inside.{IsArena, value_of}
+use Rattle.graph_core.specs.Inside.{value_of}
 use Rattle.graph_core.proofs.Standing.{node_is}
 use Rattle.graph_core.proofs.Take.{Taken, taken, taken_named}
 use Rattle.graph_core.proofs.graph.Graph.remove_node.Goals as goal

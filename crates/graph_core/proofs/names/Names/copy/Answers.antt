@@ -1,4 +1,4 @@
-use Rattle.std.proofs.Common.{◌≡◌, ◌∙◌, sym}
+use Rattle.std.proofs.Common.{◌∙◌, sym}
 use Rattle.std.specs.FinMap as finite
 use Rattle.std.specs.List.{each_same}
 use Rattle.graph_core.proofs.NameLookups.{lookup_same}

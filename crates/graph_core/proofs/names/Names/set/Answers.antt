@@ -1,7 +1,6 @@
-use Rattle.std.proofs.Common.{◌≡◌, ◌∙◌, Some, IsSome, is_some, rules, subst, sym, ap}
+use Rattle.std.proofs.Common.{◌∙◌, is_some, sym, ap}
 use Rattle.std.specs.FinMap as finite
-use Rattle.std.specs.Map.{lookup}
-use Rattle.graph_core.proofs.NameLookups.{has, others_kept}
+use Rattle.graph_core.proofs.NameLookups.{others_kept}
 use Rattle.graph_core.proofs.NameTable.{table_with, get_in_table}
 use Rattle.graph_core.proofs.names.Names.set.Goals as goal
 
