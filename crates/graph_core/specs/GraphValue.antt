@@ -1,120 +1,105 @@
--- A graph by slots: what its calls see, and the graph by names that it stands for.
-use Rattle.std.specs.Prelude.{◌≡◌, ℕ, Bool, false, not, ◌||◌, ◌&&◌, ◌==◌, List, [], ◌∷◌, ◌++◌, length, map, Option, Some, None, slice_get, slice_set}
-use Rattle.std.specs.Option.{option_map}
-use Rattle.std.specs.List.{list_any}
-use Rattle.std.specs.FinMap as map
-use Rattle.port_types.specs.declared.side.Side.{Side}
-use Rattle.port_types.specs.declared.side.Side.TheVariants.{Ins, Outs}
+-- What contracts see of a graph: the graph by names, and which node each id denotes.
+use Rattle.std.specs.Prelude.{◌≡◌, ℕ, ◌<◌, List, [], map, max, Some, unwrap_or, refl}
+use Rattle.std.specs.FinMap as finite
+use Rattle.std.specs.Coded.{Coded, code_by, coded×, coded_ℕ, coded_list}
 use Rattle.components.specs.declared.node.Node.{Node}
+use Rattle.components.specs.declared.kind.Kind.{Kind}
+use Rattle.components.specs.contracts.kind.Kind as kind
+use Rattle.components.specs.Name.{Name, Port, name_cmp, port_cmp}
+use Rattle.components.specs.Kind.{KindOk}
+use Rattle.components.specs.Node.{Body, NodeOk, body_of}
+use Rattle.components.specs.NamedGraph.{NamedGraph, IsWire, HasAllowedNames, no_graph, with_node, with_wire, without_node}
 use Rattle.graph_core.specs.declared.place.NodeId.{NodeId}
 use Rattle.graph_core.specs.declared.place.PortAt.{PortAt}
-use Rattle.graph_core.specs.Place.{index_of, id_of, place_cmp}
-use Rattle.components.specs.Name.{Name, Port, port_get}
-use Rattle.components.specs.Kind.{Shape, ports}
-use Rattle.components.specs.Node.{NodeOk, Body, body_of}
-use Rattle.components.specs.NamedGraph.{NamedGraph}
+use Rattle.graph_core.specs.contracts.place.NodeId as node_id
+use Rattle.graph_core.specs.Place.{index_of, id_cmp}
 
--- by its input, the output of each wire
-abbrev pub Feeders : Type 0
-Feeders = map.FinMap place_cmp PortAt
+-- the names of the live nodes by their ids
+abbrev pub Ids : Type 0
+Ids = finite.FinMap id_cmp Name
 
--- nodes by index, and for each input that is on a wire the output that feeds it
+-- a graph by names, the name that the id of each live node denotes, and how many slots for nodes there are
 pub record GraphValue : Type 0 where
-  pub slots : List (Option Node)
-  pub feeders : Feeders
+  pub graph : NamedGraph
+  pub ids : Ids
+  pub slots : ℕ
 
-abbrev pub flat : {A : Type 0} → Option (Option A) → Option A
-flat None = None
-flat (Some found) = found
+-- the id is that of the live node of this name
+abbrev pub Denotes : GraphValue → NodeId → Name → Type 0
+Denotes g id name = finite.get g.ids id ≡ Some name
 
--- the live node of an id
-abbrev pub node_at : GraphValue → NodeId → Option Node
-node_at g id = flat (slice_get g.slots (index_of id))
+-- a port by the name of its node. For an id that is not live this is a port of no node, since no node has the empty name
+abbrev pub port_by : Ids → PortAt → Port
+port_by ids p = record { node = unwrap_or (finite.get ids p.node) []; port = p.port }
 
-abbrev pub shape_of : Option Node → Side → ℕ → Option Shape
-shape_of None side port = None
-shape_of (Some node) side port = port_get (ports node.kind side) port
+abbrev pub port_of : GraphValue → PortAt → Port
+port_of g p = port_by g.ids p
 
--- the shape of a port of a live node, where there is such a port
-abbrev pub shape_at : GraphValue → Side → PortAt → Option Shape
-shape_at g side p = shape_of (node_at g p.node) side p.port
+-- the live node of this id
+pub record IsNodeAt (g : GraphValue) (id : NodeId) (node : Node) : Type 0 where
+  pub denotes : Denotes g id node.name
+  pub body : finite.get g.graph.nodes node.name ≡ Some (body_of node)
+  pub ok : NodeOk node
 
--- The graph by names
+-- the ids are those of all nodes in the byte order of their names
+abbrev pub AreInOrder : GraphValue → List NodeId → Type 0
+AreInOrder g ids = map (finite.get g.ids) ids ≡ map Some (finite.keys g.graph.nodes)
 
-abbrev pub named : Node → Name × Body
-named node = (node.name, body_of node)
+-- Changes
 
--- the live node of an id, by its name
-abbrev pub named_at : GraphValue → NodeId → Option (Name × Body)
-named_at g id = option_map named (node_at g id)
+abbrev pub no_nodes : GraphValue
+no_nodes = record { graph = no_graph; ids = finite.empty; slots = 0 }
 
-abbrev pub named_nodes : List (Option Node) → List (Name × Body)
-named_nodes [] = []
-named_nodes (None ∷ slots) = named_nodes slots
-named_nodes (Some node ∷ slots) = named node ∷ named_nodes slots
-
-abbrev pub name_of : Option Node → Name
-name_of None = []
-name_of (Some node) = node.name
-
--- a port by the name of its node
-abbrev pub port_named : GraphValue → PortAt → Port
-port_named g p = record { node = name_of (node_at g p.node); port = p.port }
-
-abbrev pub named_wire : GraphValue → PortAt × PortAt → Port × Port
-named_wire g wire = (port_named g wire.0, port_named g wire.1)
-
--- the graph by names that a graph stands for
-abbrev pub named_graph : GraphValue → NamedGraph
-named_graph g =
+-- with a node under this id; slots are no more than the most nodes that were live at once
+abbrev pub with_id : GraphValue → NodeId → Node → GraphValue
+with_id g id node =
     record {
-      nodes = map.from_entries (named_nodes g.slots);
-      feeders = map.from_entries (map (named_wire g) (map.entries g.feeders));
+      graph = with_node g.graph node.name (body_of node);
+      ids = finite.insert g.ids id node.name;
+      slots = max g.slots (finite.len (finite.insert g.ids id node.name));
     }
 
--- the ids are those of the nodes in byte order of their names
-abbrev pub AreInOrder : GraphValue → List NodeId → Type 0
-AreInOrder g ids = map (named_at g) ids ≡ map Some (map.entries (named_graph g).nodes)
-
--- What the calls say
-
--- the live node of this id has this name
-abbrev pub HasName : GraphValue → NodeId → Name → Type 0
-HasName g id name = (node : Node) × (node_at g id ≡ Some node) × (node.name ≡ name)
-
--- the output stands on a wire
-abbrev pub feeds : GraphValue → PortAt → Bool
-feeds g source = list_any (λ wire. (index_of wire.1.node == index_of source.node) && (wire.1.port == source.port)) (map.entries g.feeders)
-
--- the port is one of the node of this id
-abbrev pub is_at : NodeId → Option PortAt → Bool
-is_at id None = false
-is_at id (Some p) = index_of p.node == index_of id
-
--- the id of the next node that is added
-abbrev pub next_id : GraphValue → NodeId
-next_id g = id_of (length g.slots)
-
--- with a node behind all others
-abbrev pub with_slot : GraphValue → Node → GraphValue
-with_slot g node = record g { slots = g.slots ++ Some node ∷ [] }
+-- without the node of this id and name, and the wires at its ports; the slots stay
+abbrev pub without_id : GraphValue → NodeId → Name → GraphValue
+without_id g id name = record g { graph = without_node g.graph name; ids = finite.remove g.ids id }
 
 -- with a wire from the output source to the input target
-abbrev pub with_feeder : GraphValue → PortAt → PortAt → GraphValue
-with_feeder g source target = record g { feeders = map.insert g.feeders target source }
+abbrev pub with_link : GraphValue → PortAt → PortAt → GraphValue
+with_link g source target = record g { graph = with_wire g.graph (port_of g source) (port_of g target) }
 
--- neither end of the wire into this input is a port of the node
-abbrev pub is_kept : NodeId → Feeders → PortAt → Bool
-is_kept id feeders target = not (is_at id (Some target) || is_at id (map.get feeders target))
+-- What every graph is
 
--- without the node of this id and the wires at its ports
-abbrev pub without_id : GraphValue → NodeId → GraphValue
-without_id g id = record { slots = slice_set g.slots (index_of id) None; feeders = map.retain_keys g.feeders (is_kept id g.feeders) }
+-- names are allowed, kinds meet their rows, each wire joins an output and an input of one shape, and no output is on two
+pub record IsSound (g : NamedGraph) : Type 0 where
+  pub names : HasAllowedNames g
+  pub kinds : (name : Name) (body : Body) → finite.get g.nodes name ≡ Some body → KindOk body.kind
+  pub wires : (target source : Port) → finite.get g.feeders target ≡ Some source → IsWire g source target
+  pub once : (p q source : Port) → finite.get g.feeders p ≡ Some source → finite.get g.feeders q ≡ Some source → p ≡ q
 
--- each node may stand in a graph, no two have one name; each wire joins an output to an input of its shape, and no output is on two
+-- the ids denote exactly the nodes of the graph, each node is denoted by one, and their indices are below the number of slots
 pub record IsGraph (g : GraphValue) : Type 0 where
-  pub nodes : (id : NodeId) (node : Node) → node_at g id ≡ Some node → NodeOk node
-  pub names : (i j : NodeId) (name : Name) → HasName g i name → HasName g j name → i ≡ j
-  pub wires : (target source : PortAt) → map.get g.feeders target ≡ Some source →
-      (shape : Shape) × (shape_at g Outs source ≡ Some shape) × (shape_at g Ins target ≡ Some shape)
-  pub once : (p q source : PortAt) → map.get g.feeders p ≡ Some source → map.get g.feeders q ≡ Some source → p ≡ q
+  pub graph : IsSound g.graph
+  pub denoted : (id : NodeId) (name : Name) → Denotes g id name → (body : Body) × (finite.get g.graph.nodes name ≡ Some body)
+  pub live : (name : Name) (body : Body) → finite.get g.graph.nodes name ≡ Some body → (id : NodeId) × Denotes g id name
+  pub alone : (i j : NodeId) (name : Name) → Denotes g i name → Denotes g j name → i ≡ j
+  pub within : (id : NodeId) (name : Name) → Denotes g id name → index_of id < g.slots
+
+-- How it is stored
+
+abbrev pub body_code : Coded Body
+body_code =
+    code_by (Kind × finite.FinMap name_cmp (List ℕ)) (coded× kind.the_row.coded (finite.code (coded_list coded_ℕ) (coded_list coded_ℕ))) (λ b. (b.kind, b.kept)) (λ p. record { kind = p.0; kept = p.1 }) (λ _. refl)
+
+abbrev pub port_code : Coded Port
+port_code = code_by (Name × ℕ) (coded× (coded_list coded_ℕ) coded_ℕ) (λ p. (p.node, p.port)) (λ p. record { node = p.0; port = p.1 }) (λ _. refl)
+
+abbrev pub named_graph_code : Coded NamedGraph
+named_graph_code =
+    code_by (finite.FinMap name_cmp Body × finite.FinMap port_cmp Port)
+    (coded× (finite.code (coded_list coded_ℕ) body_code) (finite.code port_code port_code))
+    (λ g. (g.nodes, g.feeders)) (λ p. record { nodes = p.0; feeders = p.1 }) (λ _. refl)
+
+abbrev pub graph_code : Coded GraphValue
+graph_code =
+    code_by (NamedGraph × (Ids × ℕ)) (coded× named_graph_code (coded× (finite.code node_id.the_row.coded (coded_list coded_ℕ)) coded_ℕ))
+    (λ g. (g.graph, (g.ids, g.slots))) (λ p. record { graph = p.0; ids = p.1.0; slots = p.1.1 }) (λ _. refl)

@@ -1,41 +1,85 @@
--- How a graph keeps its nodes and wires: a list of nodes, a table of their names, and wires by both their ends.
-use Rattle.std.specs.Prelude.{◌≡◌, ◌↔◌, ℕ, refl, List, Option, Some, slice_get}
-use Rattle.std.specs.Coded.{Coded, code_by, coded×, coded_list, coded_option}
+-- How a graph stands in its cells and its table of names.
+use Rattle.std.specs.Prelude.{◌≡◌, ℕ, zero, suc, List, [], ◌∷◌, ◌++◌, Option, Some, None, IsSome, slice_get}
+use Rattle.std.specs.Option.{option_map}
 use Rattle.std.specs.FinMap as map
-use Rattle.graph_core.specs.declared.names.Names.{Names}
+use Rattle.port_types.specs.declared.side.Side.{Side}
+use Rattle.port_types.specs.declared.side.Side.TheVariants.{Ins, Outs}
 use Rattle.components.specs.declared.node.Node.{Node}
+use Rattle.components.specs.Name.{Name, Port, port_get}
+use Rattle.components.specs.Kind.{Shape, ports}
+use Rattle.components.specs.Node.{NodeOk, Body, body_of}
 use Rattle.graph_core.specs.declared.place.NodeId.{NodeId}
 use Rattle.graph_core.specs.declared.place.PortAt.{PortAt}
-use Rattle.components.specs.contracts.node.Node as node
-use Rattle.graph_core.specs.contracts.place.PortAt as place
-use Rattle.graph_core.specs.Place.{index_of, place_cmp}
-use Rattle.graph_core.specs.Names.{id_under}
-use Rattle.graph_core.specs.GraphValue.{GraphValue, Feeders, flat}
+use Rattle.graph_core.specs.declared.cells.Cell.{Cell}
+use Rattle.graph_core.specs.Ends.{EndList, flat}
+use Rattle.graph_core.specs.Names.{IdsByName}
+use Rattle.graph_core.specs.Cells.{CellsValue, ends}
+use Rattle.graph_core.specs.Tables.{map_values, tabulate}
+use Rattle.graph_core.specs.GraphValue.{GraphValue, Ids, port_by}
 
--- feeders are stored as the list of their pairs
-abbrev pub feeders_code : Coded Feeders
-feeders_code = map.code place.the_row.coded place.the_row.coded
+abbrev pub then : {A B : Type 0} → Option A → (A → Option B) → Option B
+then None f = None
+then (Some x) f = f x
 
--- a graph's value is stored as the pair of its fields
-abbrev pub graph_code : Coded GraphValue
-graph_code = code_by (List (Option Node) × Feeders) (coded× (coded_list (coded_option node.the_row.coded)) feeders_code) (λ g. (g.slots, g.feeders)) (λ p. record { slots = p.0; feeders = p.1 }) (λ _. refl)
+-- the live node of an id
+abbrev pub node_at : CellsValue → NodeId → Option Node
+node_at c id = option_map (λ cell. cell.node) (map.get c.cells id)
 
-abbrev pub value_of : List (Option Node) → Feeders → GraphValue
-value_of slots feeders = record { slots = slots; feeders = feeders }
+-- what a cell keeps for its port i, where it has such a port
+abbrev pub kept_end : EndList → ℕ → Option (Option PortAt)
+kept_end ends zero = None
+kept_end ends (suc i) = slice_get ends i
 
--- the entries `from` are the entries `into` with keys and values turned
-pub record AreInverse (into from : List (PortAt × PortAt)) : Type 0 where
-  pub turned : (target source : PortAt) → map.find place_cmp target into ≡ Some source → map.find place_cmp source from ≡ Some target
-  pub back : (target source : PortAt) → map.find place_cmp source from ≡ Some target → map.find place_cmp target into ≡ Some source
+-- what is kept for a port, where there is such a port
+abbrev pub slot_at : CellsValue → Side → PortAt → Option (Option PortAt)
+slot_at c side p = then (map.get c.cells p.node) (λ cell. kept_end (ends cell side) p.port)
 
--- a live node with this name stands at this index
-abbrev pub IsNamedAt : List (Option Node) → ℕ → List ℕ → Type 0
-IsNamedAt slots index name = (node : Node) × (flat (slice_get slots index) ≡ Some node) × (node.name ≡ name)
+-- the port at the other end of the wire at a port
+abbrev pub end_at : CellsValue → Side → PortAt → Option PortAt
+end_at c side p = flat (slot_at c side p)
 
--- no two live nodes have one name
-abbrev pub AreNamedApart : List (Option Node) → Type 0
-AreNamedApart slots = (i j : ℕ) (name : List ℕ) → IsNamedAt slots i name → IsNamedAt slots j name → i ≡ j
+-- the shape of a port of a live node
+abbrev pub shape_at : CellsValue → Side → PortAt → Option Shape
+shape_at c side p = then (node_at c p.node) (λ node. port_get (ports node.kind side) p.port)
 
--- the table has the id of each live node under its name, and no other
-abbrev pub AreListed : List (Option Node) → Names → Type 0
-AreListed slots names = (name : List ℕ) (id : NodeId) → (id_under names name ≡ Some id) ↔ IsNamedAt slots (index_of id) name
+-- The graph by names
+
+abbrev pub ids_of : CellsValue → Ids
+ids_of c = map_values (λ cell. cell.node.name) c.cells
+
+abbrev pub body_under : CellsValue → IdsByName → Name → Option Body
+body_under c names name = then (map.get names name) (λ id. option_map body_of (node_at c id))
+
+abbrev pub feeder_under : CellsValue → IdsByName → Port → Option Port
+feeder_under c names q = then (map.get names q.node) (λ id. option_map (port_by (ids_of c)) (end_at c Ins (record { node = id; port = q.port })))
+
+-- the inputs of the node of this name, counted from `port`
+abbrev pub inputs_from : Name → ℕ → EndList → List Port
+inputs_from name port [] = []
+inputs_from name port (end ∷ ends) = record { node = name; port = port } ∷ inputs_from name (suc port) ends
+
+abbrev pub ins_in : Option Cell → EndList
+ins_in None = []
+ins_in (Some cell) = cell.ins
+
+abbrev pub inputs_of : CellsValue → List (Name × NodeId) → List Port
+inputs_of c [] = []
+inputs_of c ((name, id) ∷ names) = inputs_from name 1 (ins_in (map.get c.cells id)) ++ inputs_of c names
+
+abbrev pub value_of : CellsValue → IdsByName → GraphValue
+value_of c names =
+    record {
+      graph = record { nodes = tabulate (map.keys names) (body_under c names); feeders = tabulate (inputs_of c (map.entries names)) (feeder_under c names) };
+      ids = ids_of c;
+      slots = c.slots;
+    }
+
+-- each node is right and listed under its name, and its ports keep the ends of wires; both ends of a wire keep each other, and have one shape
+pub record IsArena (c : CellsValue) (table : IdsByName) : Type 0 where
+  pub nodes : (id : NodeId) (node : Node) → node_at c id ≡ Some node → NodeOk node
+  pub listed : (id : NodeId) (node : Node) → node_at c id ≡ Some node → map.get table node.name ≡ Some id
+  pub names : (name : Name) (id : NodeId) → map.get table name ≡ Some id → (node : Node) × (node_at c id ≡ Some node) × (node.name ≡ name)
+  pub room : (side : Side) (p : PortAt) (shape : Shape) → shape_at c side p ≡ Some shape → IsSome (slot_at c side p)
+  pub forth : (target source : PortAt) → end_at c Ins target ≡ Some source → end_at c Outs source ≡ Some target
+  pub back : (source target : PortAt) → end_at c Outs source ≡ Some target → end_at c Ins target ≡ Some source
+  pub wires : (target source : PortAt) → end_at c Ins target ≡ Some source → (shape : Shape) × (shape_at c Outs source ≡ Some shape) × (shape_at c Ins target ≡ Some shape)

@@ -1,13 +1,12 @@
 -- The table of the ids of nodes by their names.
-use Rattle.std.specs.Prelude.{◌≡◌, ℕ, List, Option, bytes_eq}
-use Rattle.indexmap.specs.IndexMap.{get_by}
-use Rattle.graph_core.specs.declared.names.Names.{Names}
+use Rattle.std.specs.Coded.{Coded, coded_list, coded_ℕ}
+use Rattle.std.specs.FinMap as finite
+use Rattle.components.specs.Name.{name_cmp}
 use Rattle.graph_core.specs.declared.place.NodeId.{NodeId}
+use Rattle.graph_core.specs.contracts.place.NodeId as id
 
--- the id under a name
-abbrev pub id_under : Names → List ℕ → Option NodeId
-id_under names name = get_by (λ key. bytes_eq name key.items) names.ids
+abbrev pub IdsByName : Type 0
+IdsByName = finite.FinMap name_cmp NodeId
 
--- both have the same ids under the same names
-abbrev pub SameNames : Names → Names → Type 0
-SameNames names others = (name : List ℕ) → id_under others name ≡ id_under names name
+abbrev pub ids_by_name_code : Coded IdsByName
+ids_by_name_code = finite.code (coded_list coded_ℕ) id.the_row.coded

@@ -1,9 +1,8 @@
--- Nodes and ports by index.
+-- Nodes by index.
 use Rattle.std.specs.Prelude.{ℕ}
-use Rattle.std.specs.Ordering.{nat_cmp, ordering_then}
+use Rattle.std.specs.Ordering.{nat_cmp}
 use Rattle.std.specs.declared.cmp.Ordering.{Ordering}
 use Rattle.graph_core.specs.declared.place.NodeId.{NodeId}
-use Rattle.graph_core.specs.declared.place.PortAt.{PortAt}
 
 abbrev pub index_of : NodeId → ℕ
 index_of id = id.index
@@ -11,6 +10,5 @@ index_of id = id.index
 abbrev pub id_of : ℕ → NodeId
 id_of index = record { index = index }
 
--- by index, and then by number
-abbrev pub place_cmp : PortAt → PortAt → Ordering
-place_cmp p q = ordering_then (nat_cmp p.node.index q.node.index) (nat_cmp p.port q.port)
+abbrev pub id_cmp : NodeId → NodeId → Ordering
+id_cmp i j = nat_cmp i.index j.index

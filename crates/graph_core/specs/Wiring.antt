@@ -1,55 +1,34 @@
--- When a wire may be added, and which ports stand on none.
-use Rattle.std.specs.Prelude.{◌≡◌, ◌≢◌, ◌⊎◌, ℕ, ◌<◌, Bool, ◌||◌, Option, Some, None, IsSome, is_some, bytes_eq, if◌then◌else◌}
-use Rattle.std.specs.FinMap as map
+-- What keeps a wire out, and which ports are open.
+use Rattle.std.specs.Prelude.{◌≡◌, ◌≢◌, ◌⊎◌, Some}
+use Rattle.std.specs.FinMap as finite
 use Rattle.port_types.specs.declared.side.Side.{Side}
 use Rattle.port_types.specs.declared.side.Side.TheVariants.{Ins, Outs}
-use Rattle.graph_core.specs.declared.place.PortAt.{PortAt}
 use Rattle.graph_core.specs.declared.graph.AddWire.{AddWire}
 use Rattle.graph_core.specs.declared.graph.AddWire.TheVariants.{UnknownPort, PortTaken, ShapeDiffers, NoMemory}
-use Rattle.graph_core.specs.declared.graph.PortOpen.{PortOpen}
-use Rattle.graph_core.specs.Place.{index_of}
-use Rattle.components.specs.Kind.{Shape}
-use Rattle.graph_core.specs.GraphValue.{GraphValue, shape_at, feeds}
+use Rattle.components.specs.Name.{Port, port_get}
+use Rattle.components.specs.Kind.{Shape, ports}
+use Rattle.components.specs.Node.{Body}
+use Rattle.components.specs.NamedGraph.{NamedGraph, CanWire}
 
--- one of the two ports stands on a wire already
-abbrev pub is_taken : GraphValue → PortAt → PortAt → Bool
-is_taken g source target = is_some (map.get g.feeders target) || feeds g source
+-- the port is one of a node of the graph, with this shape
+abbrev pub HasShape : NamedGraph → Side → Port → Shape → Type 0
+HasShape g side p shape = (body : Body) × (finite.get g.nodes p.node ≡ Some body) × (port_get (ports body.kind side) p.port ≡ Some shape)
 
-abbrev pub fault_between : Option Shape → Option Shape → Bool → Option AddWire
-fault_between None to taken = Some UnknownPort
-fault_between (Some a) None taken = Some UnknownPort
-fault_between (Some a) (Some b) taken = if taken then Some PortTaken else (if bytes_eq a b then None else Some ShapeDiffers)
+-- the port stands on a wire
+abbrev pub IsWired : NamedGraph → Side → Port → Type 0
+IsWired g Ins p = (source : Port) × (finite.get g.feeders p ≡ Some source)
+IsWired g Outs p = (target : Port) × (finite.get g.feeders target ≡ Some p)
 
--- the first that keeps a wire from output source to input target out: a port that is not there, a port on a wire, two shapes
-abbrev pub wire_fault : GraphValue → PortAt → PortAt → Option AddWire
-wire_fault g source target = fault_between (shape_at g Outs source) (shape_at g Ins target) (is_taken g source target)
+-- both ports of a wire from output source to input target are there
+pub record AreThere (g : NamedGraph) (source target : Port) : Type 0 where
+  pub leaving : Shape
+  pub entering : Shape
+  pub output : HasShape g Outs source leaving
+  pub input : HasShape g Ins target entering
 
--- the answer is this fault, or there was no memory where there is none
-abbrev pub IsWireFault : Option AddWire → AddWire → Type 0
-IsWireFault fault answer = (fault ≡ Some answer) ⊎ ((fault ≡ None) × (answer ≡ NoMemory))
-
--- the port stands on no wire
-abbrev pub IsFree : GraphValue → Side → PortAt → Type 0
-IsFree g Ins p = map.get g.feeders p ≡ None
-IsFree g Outs p = (target : PortAt) → map.get g.feeders target ≢ Some p
-
--- the port of a live node stands on no wire
-pub record IsOpen (g : GraphValue) (open_port : PortOpen) : Type 0 where
-  pub there : IsSome (shape_at g open_port.side (record { node = open_port.node; port = open_port.port }))
-  pub free : IsFree g open_port.side (record { node = open_port.node; port = open_port.port })
-
--- inputs come before outputs
-abbrev pub ComesBefore : Side → ℕ → Side → ℕ → Type 0
-ComesBefore Ins i Ins j = i < j
-ComesBefore Ins i Outs j = Unit {0}
-ComesBefore Outs i Ins j = ⊥
-ComesBefore Outs i Outs j = i < j
-
--- in the order of ids, inputs before outputs, by number
-abbrev pub IsBefore : PortOpen → PortOpen → Type 0
-IsBefore p q = (index_of p.node < index_of q.node) ⊎ ((p.node ≡ q.node) × ComesBefore p.side p.port q.side q.port)
-
--- an open port, and the first of all
-pub record IsFirstOpen (g : GraphValue) (open_port : PortOpen) : Type 0 where
-  pub is_open : IsOpen g open_port
-  pub first : (other : PortOpen) → IsOpen g other → ¬ (IsBefore other open_port)
+-- why no wire from output source to input target is added: a port is not there; a port stands on a wire; the shapes differ; want of memory for one that could be
+abbrev pub Refuses : NamedGraph → Port → Port → AddWire → Type 0
+Refuses g source target UnknownPort = ¬ (AreThere g source target)
+Refuses g source target PortTaken = AreThere g source target × (IsWired g Ins target ⊎ IsWired g Outs source)
+Refuses g source target ShapeDiffers = (there : AreThere g source target) × (there.leaving ≢ there.entering) × ¬ (IsWired g Ins target) × ¬ (IsWired g Outs source)
+Refuses g source target NoMemory = CanWire g source target

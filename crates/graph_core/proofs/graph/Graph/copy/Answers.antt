@@ -1,10 +1,18 @@
-use Rattle.std.proofs.Common.{◌≡◌, rules}
-use Rattle.graph_core.proofs.Listed.{AreListed-same}
+use Rattle.std.proofs.Common.{◌≡◌, ◌∙◌, sym, subst}
+use Rattle.graph_core.specs.Inside.{IsArena, value_of}
 use Rattle.graph_core.proofs.graph.Graph.copy.Goals as goal
+use Rattle.graph_core.proofs.graph.Graph.copy.Goals.{In_ok-names}
+
+cells : (c : In_ok-names) → c.in_ok-cells.cells ≡ c.self.inside.cells
+cells c = c.in_ok-cells.ensures
+
+names : (c : In_ok-names) → c.in_ok-names.names ≡ c.self.inside.names
+names c = c.in_ok-names.ensures
 
 pub invariant_of-result : goal.invariant_of-result
 invariant_of-result c =
-    let nodes : c.in_ok-nodes.nodes.items ≡ c.self.inside.nodes.items = search rules in
-    let wires : c.in_ok-wires.wires ≡ c.self.inside.wires = search rules in
-    let listed = AreListed-same c.self.inside.nodes.items c.self.inside.names c.in_ok-names.names c.in_ok-names.ensures c.self.invariant.1 in
-    rw (nodes, wires) (c.self.invariant.0, listed)
+    let at = (goal.at.invariant_of-result c).In_ok-names in
+    subst (λ m. IsArena m c.in_ok-names.names) (sym (cells at)) (subst (IsArena c.self.inside.cells) (sym (names at)) c.self.invariant)
+
+pub returns : goal.returns
+returns c = let at = (goal.at.returns c).In_ok-names in (λ i. value_of (cells at i) (names at i)) ∙ c.self.view_is

@@ -1,37 +1,29 @@
-use Rattle.std.proofs.Common.{◌≡◌, ◌∙◌, sym, ap, subst, slice_set, None}
-use Rattle.graph_core.specs.GraphValue.{IsGraph, node_at, named_graph, without_id}
+use Rattle.std.proofs.Common.{◌≡◌, MatchOption, None, refl, sym, subst}
+use Rattle.std.specs.FinMap as finite
+use Rattle.components.specs.Name.{Name}
+use Rattle.graph_core.specs.Arena.{without_wired}
+use Rattle.graph_core.specs.GraphValue.{Denotes, IsNodeAt, without_id}
 use Rattle.graph_core.specs.Inside.{value_of}
-use Rattle.graph_core.proofs.KeepsGraph.{IsGraph-without_id}
-use Rattle.graph_core.proofs.Changes.{without_id-dead}
-use Rattle.graph_core.proofs.ByNamesAfter.{named_graph-without_id}
+use Rattle.graph_core.proofs.Standing.{node_is}
+use Rattle.graph_core.proofs.Take.{Taken, taken, taken_named}
 use Rattle.graph_core.proofs.graph.Graph.remove_node.Goals as goal
-use Rattle.graph_core.proofs.graph.Graph.remove_node.Goals.{After-remove_at}
-use Rattle.graph_core.proofs.Options.{if_some, if_none}
+use Rattle.graph_core.proofs.graph.Graph.remove_node.Goals.{After-take}
 
-emptied : (c : After-remove_at) → c.take_named-node.new.nodes.items ≡ slice_set c.self.inside.nodes.items c.args.id.index None
-emptied c = c.take_named-node.ensures.emptied
-
--- the fields then stand for the graph without the node
-value_is : (c : After-remove_at) → value_of c.take_named-node.new.nodes.items c.remove_at.new.self ≡ without_id c.args.self.now c.args.id
-value_is c = (λ i. value_of (emptied c i) (c.remove_at.ensures i)) ∙ ap (λ g. without_id g c.args.id) c.self.view_is
+gone : (c : After-take) → Taken c.self.inside.cells c.self.inside.names c.args.id (finite.get c.self.inside.cells.cells c.args.id) c.take.new.cells c.take.new.names
+gone c =
+    subst (λ d. Taken c.self.inside.cells c.self.inside.names c.args.id (finite.get c.self.inside.cells.cells c.args.id) d c.take.new.names) (sym c.take.ensures.cells)
+    (subst (Taken c.self.inside.cells c.self.inside.names c.args.id (finite.get c.self.inside.cells.cells c.args.id) (without_wired c.self.inside.cells c.args.id (finite.get c.self.inside.cells.cells c.args.id))) (sym c.take.ensures.names)
+    (taken c.self.inside.cells c.self.inside.names c.self.invariant c.args.id (finite.get c.self.inside.cells.cells c.args.id) refl))
 
 pub invariant_of-self : goal.invariant_of-self
-invariant_of-self c =
-    let ok = subst IsGraph c.self.view_is c.self.invariant.0 in
-    (subst IsGraph (sym (value_is c)) (IsGraph-without_id c.args.self.now ok c.args.id), c.take_named-node.ensures.listed)
+invariant_of-self c = (gone c).ok
+
+pub returns-clause-node : goal.returns-clause-node
+returns-clause-node c =
+    subst (λ v. MatchOption c.take.result (finite.get v.ids c.args.id ≡ None) (IsNodeAt v c.args.id)) c.self.view_is
+    (node_is c.self.inside.cells c.self.inside.names c.self.invariant c.args.id c.take.result (sym c.take.ensures.node))
 
 pub returns-clause-gone : goal.returns-clause-gone
-returns-clause-gone c = value_is c
-
-node_is : (c : After-remove_at) → c.take_named-node.result ≡ node_at c.args.self.now c.args.id
-node_is c = c.take_named-node.ensures.node ∙ ap (λ g. node_at g c.args.id) c.self.view_is
-
-pub returns-clause-names : goal.returns-clause-names
-returns-clause-names c =
-    let ok = subst IsGraph c.self.view_is c.self.invariant.0 in
-    if_some c.take_named-node.result _ (λ node e. ap named_graph (value_is c) ∙ named_graph-without_id c.args.self.now ok c.args.id node (sym (node_is c) ∙ e))
-
-pub returns-clause-none : goal.returns-clause-none
-returns-clause-none c =
-    let ok = subst IsGraph c.self.view_is c.self.invariant.0 in
-    if_none c.take_named-node.result _ (λ e. value_is c ∙ without_id-dead c.args.self.now ok c.args.id (sym (node_is c) ∙ e))
+returns-clause-gone c =
+    subst (λ v. (name : Name) → Denotes v c.args.id name → value_of c.take.new.cells c.take.new.names ≡ without_id v c.args.id name) c.self.view_is
+    (taken_named c.self.inside.cells c.self.inside.names c.args.id (finite.get c.self.inside.cells.cells c.args.id) c.take.new.cells c.take.new.names refl (gone c))
