@@ -6,10 +6,11 @@ use Rattle.components.specs.declared.kind.Kind.{Kind}
 use Rattle.components.specs.declared.kind.Kind.TheVariants.{Entry, Exit, Buffer, Fork}
 use Rattle.components.specs.Name.{Name, Port, port_get}
 use Rattle.components.specs.Kind.{Shape, ins, outs}
+use Rattle.components.specs.Orders.{same_bytes, other_bytes}
 use Rattle.circuits.specs.Circuit.{Circuit, Wire, Typed}
 use Rattle.circuits.specs.Refines.{SamePorts, Refines}
 use Rattle.circuits.specs.Buffers.{bypass, drop_node, IsBufferLike, CanDropBuffer}
-use Rattle.circuits.proofs.Names.{name_cases, other_test, same_test}
+use Rattle.circuits.proofs.Names.{name_cases}
 use Rattle.circuits.proofs.Matching.{matches_refines}
 use Rattle.circuits.proofs.Dropping.{CanDrop, IsPlain, buffer_plain, fork_plain, kind_dropped, kind_gone, feeder_dropped, feeder_gone, single_port, out_port, drop_matches, undrop_matches}
 
@@ -47,12 +48,12 @@ module _ (c : Circuit) (b : Name) (can : CanDrop c b) (ty : Typed c) where
   pub fed_straight : (p q : Port) → p.node ≢ b → c.feeder p ≡ Some q → q.node ≢ b → (drop_node b c).feeder p ≡ Some q
   fed_straight p q away f ne =
       feeder_dropped c b can p away ∙ ap (bypass b (c.feeder (record { node = b; port = 1 }))) f
-      ∙ ap (λ z. if z then c.feeder (record { node = b; port = 1 }) else Some q) (other_test q.node b ne)
+      ∙ ap (λ z. if z then c.feeder (record { node = b; port = 1 }) else Some q) (other_bytes q.node b ne)
 
   pub fed_across : (p r : Port) → p.node ≢ b → c.feeder p ≡ Some r → r.node ≡ b → (drop_node b c).feeder p ≡ c.feeder (record { node = b; port = 1 })
   fed_across p r away f is =
       feeder_dropped c b can p away ∙ ap (bypass b (c.feeder (record { node = b; port = 1 }))) f
-      ∙ ap (λ z. if z then c.feeder (record { node = b; port = 1 }) else Some r) (same_test r.node b is)
+      ∙ ap (λ z. if z then c.feeder (record { node = b; port = 1 }) else Some r) (same_bytes r.node b is)
 
   source_kind : (p q : Port) (f : c.feeder p ≡ Some q) → q.node ≡ b → (ty.wires p q f).source ≡ can.kind
   source_kind p q f is = same_Some _ can.kind (sym (ty.wires p q f).is_source ∙ ap c.kind_at is ∙ can.is_kind)

@@ -1,30 +1,25 @@
 -- The graph without a Buffer stands for the circuit without it.
-use Rattle.std.proofs.Common.{◌≡◌, ◌≢◌, inl, inr, Bool, true, false, not, ◌||◌, refl, sym, ap, subst, ◌∙◌, bytes_eq, cond, if◌then◌else◌, List, Option, Some, None}
-use Rattle.std.specs.Ordering.{eq_by_cmp}
+use Rattle.std.proofs.Common.{◌≡◌, ◌≢◌, inl, inr, Bool, true, false, not, ◌||◌, refl, sym, ap, subst, ◌∙◌, cond, if◌then◌else◌, List, Option, Some, None}
 use Rattle.std.specs.FinMap as map
 use Rattle.std.proofs.lemmas.Option.{same_Some}
 use Rattle.op_table.specs.Laws.{ValueFits}
 use Rattle.components.specs.declared.kind.Kind.TheVariants.{Buffer}
-use Rattle.components.specs.Name.{Name, Port, port_cmp, port_get}
+use Rattle.components.specs.Name.{Name, Port, port_get}
 use Rattle.components.specs.Kind.{ins}
-use Rattle.components.specs.Node.{Body}
 use Rattle.components.specs.NamedGraph.{NamedGraph, IsTyped, is_of, without_node, with_wire}
+use Rattle.components.specs.Lookups.{get_inserted, get_not_inserted, get_removed, get_not_removed, get_retained}
+use Rattle.components.specs.Orders.{name_total, name_same, port_total, port_same, port_cases, same_bytes, other_bytes}
 use Rattle.circuits.specs.PortTokens.{Token}
 use Rattle.circuits.specs.Circuit.{Typed, circuit_of, kind_of_body}
 use Rattle.circuits.specs.Refines.{Refines}
 use Rattle.circuits.specs.Buffers.{first_port, bypass, drop_node, CanDropBuffer, IsWithoutBuffer}
 use Rattle.circuits.specs.Drains.{Drains}
-use Rattle.circuits.proofs.Names.{name_cases, same_test, other_test}
+use Rattle.circuits.proofs.Names.{name_cases}
 use Rattle.circuits.proofs.Dropping.{single_port, out_port}
 use Rattle.circuits.proofs.Dropped.{can_drop_of, dropped, put}
 use Rattle.circuits.proofs.Draining.{drains_without}
 use Rattle.circuits.proofs.Renaming.{circuit_same}
-use Rattle.circuits.proofs.Maps.{port_cases, get_without_name, get_with_port, get_kept_port}
 use Rattle.circuits.proofs.GraphCircuits.{circuit_typed}
-
-kind_without : (b : Bool) (o : Option Body) → kind_of_body (cond b None o) ≡ (if b then None else kind_of_body o)
-kind_without true o = refl
-kind_without false o = refl
 
 kept_none : (keeps : Bool) → cond {A = Option Port} keeps None None ≡ None
 kept_none true = refl
@@ -63,28 +58,41 @@ module _ (h g : NamedGraph) (b : Name) (ty : IsTyped g) (w : IsWithoutBuffer h g
   others p None apart away e = kept_none (keeps p)
   others p (Some q) apart away e =
       let no_one : q.node ≢ b = fed_by_b p q apart e in
-      let kept : keeps p ≡ true = (λ i. not (other_test p.node b away i || is_of b (e i))) ∙ ap not (other_test q.node b no_one) in
-      ap (λ x. cond x (Some q) None) kept ∙ sym (ap (λ x. if x then map.get g.feeders (first_port b) else Some q) (other_test q.node b no_one))
+      let kept : keeps p ≡ true = (λ i. not (other_bytes p.node b away i || is_of b (e i))) ∙ ap not (other_bytes q.node b no_one) in
+      ap (λ x. cond x (Some q) None) kept ∙ sym (ap (λ x. if x then map.get g.feeders (first_port b) else Some q) (other_bytes q.node b no_one))
 
   feeder_at : (p : Port) → map.get (with_wire (without_node g b) w.source w.target).feeders p ≡ (drop_node b (circuit_of g)).feeder p
   feeder_at p =
-      get_with_port (without_node g b).feeders w.target w.source p
-      ∙ ap (λ x. cond (eq_by_cmp port_cmp p w.target) (Some w.source) x) (get_kept_port g.feeders keeps p)
-      ∙ elim (port_cases p w.target) [
+      elim (port_cases p w.target) [
         | inl same ↦
-            let away : p.node ≢ b = λ is. target_away (ap (λ (x : Port). x.node) (sym same.is) ∙ is) in
-            let fed : map.get g.feeders p ≡ Some (first_port b) = ap (map.get g.feeders) same.is ∙ w.after in
-            rw (same.test, other_test p.node b away, fed, same_test b b refl) (sym w.before)
-        | inr other ↦ elim (name_cases p.node b) [
-          | inl is ↦ rw (other.test, is.test)
-          | inr away ↦ rw (other.test) (others p (map.get g.feeders p) other.is_not away.is_not refl ∙ sym (ap (λ x. if x then None else bypass b (map.get g.feeders (first_port b)) (map.get g.feeders p)) away.test))
-        ]
+            let away : p.node ≢ b = λ is. target_away (ap (λ (x : Port). x.node) (sym same) ∙ is) in
+            let fed : map.get g.feeders p ≡ Some (first_port b) = ap (map.get g.feeders) same ∙ w.after in
+            get_inserted port_total port_same (without_node g b).feeders w.target w.source p same
+            ∙ rw (other_bytes p.node b away, fed, same_bytes b b refl) (sym w.before)
+        | inr other ↦
+            get_not_inserted port_total port_same (without_node g b).feeders w.target w.source p other
+            ∙ get_retained port_total port_same g.feeders keeps p
+            ∙ elim (name_cases p.node b) [
+              | inl is ↦ rw (is.test)
+              | inr away ↦
+                  others p (map.get g.feeders p) other away.is_not refl
+                  ∙ sym (ap (λ x. if x then None else bypass b (map.get g.feeders (first_port b)) (map.get g.feeders p)) away.test)
+            ]
+      ]
+
+  kind_at : (n : Name) → kind_of_body (map.get (without_node g b).nodes n) ≡ (drop_node b (circuit_of g)).kind_at n
+  kind_at n =
+      elim (name_cases n b) [
+        | inl is ↦ ap (λ m. kind_of_body (map.get (without_node g b).nodes m)) is.is ∙ ap kind_of_body (get_removed name_total name_same g.nodes b)
+            ∙ sym (ap (λ x. if x then None else kind_of_body (map.get g.nodes n)) is.test)
+        | inr other ↦ ap kind_of_body (get_not_removed name_total name_same g.nodes b n other.is_not)
+            ∙ sym (ap (λ x. if x then None else kind_of_body (map.get g.nodes n)) other.test)
       ]
 
   pub without_circuit : circuit_of h ≡ drop_node b (circuit_of g)
   without_circuit =
       ap circuit_of w.is
-      ∙ circuit_same _ _ (λ n. ap kind_of_body (get_without_name g.nodes b n) ∙ kind_without (bytes_eq n b) (map.get g.nodes n)) feeder_at
+      ∙ circuit_same _ _ kind_at feeder_at
 
   pub graph_drop_refines : ValueFits → Refines (circuit_of h) (circuit_of g)
   graph_drop_refines values = subst (λ c. Refines c (circuit_of g)) (sym without_circuit) (dropped values (circuit_of g) b typed can_drop)

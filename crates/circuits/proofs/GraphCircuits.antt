@@ -7,9 +7,9 @@ use Rattle.components.specs.Name.{Name, Port, name_cmp, port_get}
 use Rattle.components.specs.Kind.{ins, outs, KindOk}
 use Rattle.components.specs.Node.{Body}
 use Rattle.components.specs.NamedGraph.{NamedGraph, IsWire, IsTyped}
+use Rattle.components.specs.Lookups.{other_test}
+use Rattle.components.specs.Orders.{name_total, name_same, name_cases}
 use Rattle.circuits.specs.Circuit.{Wire, Typed, circuit_of, kind_of_body}
-use Rattle.circuits.proofs.Names.{name_cases}
-use Rattle.circuits.proofs.Maps.{name_test}
 
 -- the node behind a kind
 pub record HasBody (o : Option Body) (k : Kind) : Type 0 where
@@ -31,9 +31,9 @@ unfolding total_length
 name_short [] n body e = let z : None ≡ Some body = e in cc
 name_short (x ∷ es) n body e =
     elim (name_cases n x.0) [
-      | inl same ↦ let long : length n ≡ length x.0 = ap length same.is in omega (arith, long)
+      | inl same ↦ let long : length n ≡ length x.0 = ap length same in omega (arith, long)
       | inr other ↦
-          let later : map.find name_cmp n es ≡ Some body = sym (ap (λ b. cond b (Some x.1) (map.find name_cmp n es)) (name_test n x.0 ∙ other.test)) ∙ e in
+          let later : map.find name_cmp n es ≡ Some body = sym (ap (λ b. cond b (Some x.1) (map.find name_cmp n es)) (other_test name_total name_same n x.0 other)) ∙ e in
           let short = name_short es n body later in
           omega (arith, short)
     ]

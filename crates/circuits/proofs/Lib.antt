@@ -24,7 +24,6 @@ mod Regrouping
 mod Splitting
 mod Parts
 mod Alone
-mod Maps
 mod GraphCircuits
 mod GraphBuffers
 mod LoneWire

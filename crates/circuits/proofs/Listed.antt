@@ -3,18 +3,20 @@ use Rattle.std.proofs.Common.{◌≡◌, ℕ, ◌<◌, inl, inr, Bool, true, fal
 use Rattle.std.specs.Ordering.{eq_by_cmp}
 use Rattle.std.specs.FinMap as map
 use Rattle.std.specs.List.{AllByRecursion}
+use Rattle.std.proofs.lemmas.Map.Text.{is_eq-slice_cmp}
 use Rattle.std.proofs.lemmas.Option.{same_Some}
 use Rattle.components.specs.declared.kind.Kind.{Kind}
 use Rattle.components.specs.Name.{Name, Port, name_cmp, port_cmp, port_get}
 use Rattle.components.specs.Kind.{ins, outs, KindOk}
 use Rattle.components.specs.Node.{Body}
+use Rattle.components.specs.Lookups.{same_test, other_test}
+use Rattle.components.specs.Orders.{name_total, port_total, port_same, port_cases}
 use Rattle.circuits.specs.Circuit.{Circuit, Wire, Typed, circuit_of, kind_of_body}
 use Rattle.circuits.specs.LoneWire.{bare}
 use Rattle.circuits.specs.Listed.{ListedNode, ListedWire, with_nodes, listed}
 use Rattle.circuits.proofs.Names.{name_cases}
 use Rattle.circuits.proofs.Beside.{none_some}
 use Rattle.circuits.proofs.Renaming.{circuit_same}
-use Rattle.circuits.proofs.Maps.{port_cases, get_with_name, get_with_port}
 
 -- the circuit, spelled out
 abbrev pub kind_in : List ListedNode → Name → Option Kind
@@ -39,8 +41,9 @@ feeder_cond false q o = refl
 node_at : (nodes : List ListedNode) (n : Name) → kind_of_body (map.get (with_nodes nodes).nodes n) ≡ kind_in nodes n
 node_at [] n = ap kind_of_body (map.get-empty name_cmp n)
 node_at (node ∷ nodes) n =
-    ap kind_of_body (get_with_name (with_nodes nodes).nodes node.name (bare node.kind) n)
-    ∙ kind_cond (bytes_eq n node.name) node.kind (map.get (with_nodes nodes).nodes n)
+    ap kind_of_body (map.get-insert name_total (with_nodes nodes).nodes node.name (bare node.kind) n)
+    ∙ kind_cond (eq_by_cmp name_cmp n node.name) node.kind (map.get (with_nodes nodes).nodes n)
+    ∙ ap (λ b. if b then Some node.kind else kind_of_body (map.get (with_nodes nodes).nodes n)) (is_eq-slice_cmp n node.name)
     ∙ ap (λ z. if bytes_eq n node.name then Some node.kind else z) (node_at nodes n)
 
 same_nodes : (nodes : List ListedNode) (wires : List ListedWire) → (listed nodes wires).nodes ≡ (with_nodes nodes).nodes
@@ -54,7 +57,7 @@ no_wires (node ∷ nodes) p = no_wires nodes p
 wire_at : (nodes : List ListedNode) (wires : List ListedWire) (p : Port) → map.get (listed nodes wires).feeders p ≡ feeder_in wires p
 wire_at nodes [] p = no_wires nodes p
 wire_at nodes (wire ∷ wires) p =
-    get_with_port (listed nodes wires).feeders wire.target wire.source p
+    map.get-insert port_total (listed nodes wires).feeders wire.target wire.source p
     ∙ feeder_cond (eq_by_cmp port_cmp p wire.target) wire.source (map.get (listed nodes wires).feeders p)
     ∙ ap (λ z. if eq_by_cmp port_cmp p wire.target then Some wire.source else z) (wire_at nodes wires p)
 
@@ -78,9 +81,9 @@ each_wire P [] all p q e = absurd (none_some None q refl e)
 each_wire P (wire ∷ wires) all p q e =
     elim (port_cases p wire.target) [
       | inl is ↦
-          subst (P p) (same_Some wire.source q (sym (ap (λ b. if b then Some wire.source else feeder_in wires p) is.test) ∙ e))
-          (subst (λ z. P z wire.source) (sym is.is) all.0)
-      | inr ne ↦ each_wire P wires all.1 p q (sym (ap (λ b. if b then Some wire.source else feeder_in wires p) ne.test) ∙ e)
+          subst (P p) (same_Some wire.source q (sym (ap (λ b. if b then Some wire.source else feeder_in wires p) (same_test port_total port_same p wire.target is)) ∙ e))
+          (subst (λ z. P z wire.source) (sym is) all.0)
+      | inr ne ↦ each_wire P wires all.1 p q (sym (ap (λ b. if b then Some wire.source else feeder_in wires p) (other_test port_total port_same p wire.target ne)) ∙ e)
     ]
 
 -- each port of each node is on a wire

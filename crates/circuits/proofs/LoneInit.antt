@@ -9,6 +9,8 @@ use Rattle.components.specs.declared.kind.Kind.TheVariants.{Entry, Exit, Buffer,
 use Rattle.components.specs.Name.{Name, Port, port_cmp, port_get}
 use Rattle.components.specs.Kind.{Shape, field, ins, outs, KindOk}
 use Rattle.components.specs.NamedGraph.{IsTyped}
+use Rattle.components.specs.Lookups.{other_test}
+use Rattle.components.specs.Orders.{port_total, port_same, port_cases, same_bytes}
 use Rattle.circuits.specs.PortTokens.{Token, single, one, at_port, share, share_from}
 use Rattle.circuits.specs.Circuit.{Circuit, Typed, circuit_of, kind_of}
 use Rattle.circuits.specs.State.{Slot, State, start, initial}
@@ -18,9 +20,8 @@ use Rattle.circuits.specs.Buffers.{first_port}
 use Rattle.circuits.specs.Root.{Root.here}
 use Rattle.circuits.specs.Drains.{Led, IsRest, put_on, loaded, IsNoExit, Drains}
 use Rattle.circuits.specs.LoneInit.{bits, init, passer, out, init_nodes, init_wires, lone_init}
-use Rattle.circuits.proofs.Names.{name_cases, same_test}
+use Rattle.circuits.proofs.Names.{name_cases}
 use Rattle.circuits.proofs.Steps.{acts_at, share_same, share_other}
-use Rattle.circuits.proofs.Maps.{port_cases}
 use Rattle.circuits.proofs.Listed.{spelled, is_spelled, each_node, InputsFed, OutputsFeed, listed_typed}
 use Rattle.circuits.proofs.GraphCircuits.{graph_typed}
 use Rattle.circuits.proofs.Resting.{rest_is_one}
@@ -53,13 +54,13 @@ module _ (value mark : ℕ) where
   differ p q x y ne e = absurd (ne (ap (λ (z : Port). z.node) e))
 
   bits_init : bits ≢ init
-  bits_init e = let z : false ≡ true = same_test bits init e in cc
+  bits_init e = let z : false ≡ true = same_bytes bits init e in cc
 
   bits_passer : bits ≢ passer
-  bits_passer e = let z : false ≡ true = same_test bits passer e in cc
+  bits_passer e = let z : false ≡ true = same_bytes bits passer e in cc
 
   init_passer : init ≢ passer
-  init_passer e = let z : false ≡ true = same_test init passer e in cc
+  init_passer e = let z : false ≡ true = same_bytes init passer e in cc
 
   narrow : (k d : ℕ) → k < 1 → slice_index_or (field 1) k d ≤ 64
   narrow zero d below = omega arith
@@ -127,18 +128,21 @@ module _ (value mark : ℕ) where
   by_port : (P : Port → Type 0) → P (first_port init) → P (first_port passer) → P (first_port out) → ((p : Port) → Elsewhere p → P p) → (p : Port) → P p
   by_port P at_init at_passer at_out else_ p =
       elim (port_cases p (first_port init)) [
-        | inl is ↦ subst P (sym is.is) at_init
+        | inl is ↦ subst P (sym is) at_init
         | inr a ↦ elim (port_cases p (first_port passer)) [
-          | inl is ↦ subst P (sym is.is) at_passer
+          | inl is ↦ subst P (sym is) at_passer
           | inr b ↦ elim (port_cases p (first_port out)) [
-            | inl is ↦ subst P (sym is.is) at_out
+            | inl is ↦ subst P (sym is) at_out
             | inr d ↦
+                let a_test = other_test port_total port_same p (first_port init) a in
+                let b_test = other_test port_total port_same p (first_port passer) b in
+                let d_test = other_test port_total port_same p (first_port out) d in
                 else_ p
                 (record {
-                  no_init = a.is_not;
-                  no_passer = b.is_not;
-                  empty = λ xs ys zs i. if a.test i then xs else (if b.test i then ys else (if d.test i then zs else []));
-                  unfed = λ i. if a.test i then Some (first_port bits) else (if b.test i then Some (first_port init) else (if d.test i then Some (first_port passer) else None));
+                  no_init = a;
+                  no_passer = b;
+                  empty = λ xs ys zs i. if a_test i then xs else (if b_test i then ys else (if d_test i then zs else []));
+                  unfed = λ i. if a_test i then Some (first_port bits) else (if b_test i then Some (first_port init) else (if d_test i then Some (first_port passer) else None));
                 })
           ]
         ]

@@ -2,6 +2,7 @@
 use Rattle.std.proofs.Common.{◌≡◌, ◌≢◌, ℕ, zero, suc, ◌<◌, inl, inr, refl, sym, ap, subst, ◌∙◌, true, false, bytes_eq, cond, if◌then◌else◌, length, List, [], ◌∷◌, ◌++◌, Some, None, arith}
 use Rattle.std.specs.Ordering.{eq_by_cmp}
 use Rattle.std.specs.FinMap as map
+use Rattle.std.proofs.lemmas.Map.Text.{is_eq-slice_cmp}
 use Rattle.std.proofs.lemmas.Option.{same_Some}
 use Rattle.port_types.specs.Shape.{IsShape}
 use Rattle.port_types.specs.Token.{Fits}
@@ -9,7 +10,10 @@ use Rattle.components.specs.declared.kind.Kind.{Kind}
 use Rattle.components.specs.declared.kind.Kind.TheVariants.{Entry, Exit}
 use Rattle.components.specs.Name.{Name, Port, name_cmp, port_cmp, port_get}
 use Rattle.components.specs.Kind.{Shape, ins, outs, KindOk}
+use Rattle.components.specs.Node.{Body}
 use Rattle.components.specs.NamedGraph.{no_graph, with_node, IsTyped}
+use Rattle.components.specs.Lookups.{same_test, other_test}
+use Rattle.components.specs.Orders.{name_total, port_total, port_same, port_cases}
 use Rattle.circuits.specs.PortTokens.{Token, one, at_port, share, share_from}
 use Rattle.circuits.specs.Circuit.{Circuit, Typed, circuit_of, kind_of, kind_of_body}
 use Rattle.circuits.specs.State.{State, start, initial}
@@ -22,7 +26,6 @@ use Rattle.circuits.proofs.Steps.{acts_at, share_none, share_from_none, share_sa
 use Rattle.circuits.proofs.Beside.{none_some}
 use Rattle.circuits.proofs.Dropping.{single_port}
 use Rattle.circuits.proofs.Renaming.{circuit_same}
-use Rattle.circuits.proofs.Maps.{port_cases, get_with_name, get_with_port}
 use Rattle.circuits.proofs.GraphCircuits.{graph_typed}
 
 -- the circuit, spelled out
@@ -33,12 +36,15 @@ wire shape =
       feeder = λ p. if eq_by_cmp port_cmp p (first_port exit_name) then Some (first_port entry_name) else None;
     }
 
+with_name : (m : map.FinMap name_cmp Body) (k : Name) (v : Body) (q : Name) → map.get (map.insert m k v) q ≡ cond (bytes_eq q k) (Some v) (map.get m q)
+with_name m k v q = map.get-insert name_total m k v q ∙ ap (λ b. cond b (Some v) (map.get m q)) (is_eq-slice_cmp q k)
+
 module _ (shape : Shape) where
   kinds_same : (n : Name) → kind_of_body (map.get (lone_wire shape).nodes n) ≡ (wire shape).kind_at n
   kinds_same n =
       ap kind_of_body
-      (get_with_name (with_node no_graph entry_name (bare (Entry shape))).nodes exit_name (bare (Exit shape)) n
-      ∙ ap (cond (bytes_eq n exit_name) (Some (bare (Exit shape)))) (get_with_name map.empty entry_name (bare (Entry shape)) n ∙ ap (cond (bytes_eq n entry_name) (Some (bare (Entry shape)))) (map.get-empty name_cmp n)))
+      (with_name (with_node no_graph entry_name (bare (Entry shape))).nodes exit_name (bare (Exit shape)) n
+      ∙ ap (cond (bytes_eq n exit_name) (Some (bare (Exit shape)))) (with_name map.empty entry_name (bare (Entry shape)) n ∙ ap (cond (bytes_eq n entry_name) (Some (bare (Entry shape)))) (map.get-empty name_cmp n)))
       ∙ spelled (bytes_eq n exit_name) (bytes_eq n entry_name)
     where
       spelled : (x y : _) → kind_of_body (cond x (Some (bare (Exit shape))) (cond y (Some (bare (Entry shape))) None)) ≡ (if x then Some (Exit shape) else (if y then Some (Entry shape) else None))
@@ -48,7 +54,7 @@ module _ (shape : Shape) where
 
   feeders_same : (p : Port) → map.get (lone_wire shape).feeders p ≡ (wire shape).feeder p
   feeders_same p =
-      get_with_port map.empty (first_port exit_name) (first_port entry_name) p
+      map.get-insert port_total map.empty (first_port exit_name) (first_port entry_name) p
       ∙ ap (cond (eq_by_cmp port_cmp p (first_port exit_name)) (Some (first_port entry_name))) (map.get-empty port_cmp p)
 
   pub is_wire : circuit_of (lone_wire shape) ≡ wire shape
@@ -77,8 +83,8 @@ module _ (shape : Shape) where
   edge : (p q : Port) → (wire shape).feeder p ≡ Some q → Edge p q
   edge p q e =
       elim (port_cases p (first_port exit_name)) [
-        | inl is ↦ record { into = is.is; from = sym (same_Some (first_port entry_name) q (ap (λ b. if b then Some (first_port entry_name) else None) (sym is.test) ∙ e)) }
-        | inr ne ↦ absurd (none_some None q refl (ap (λ b. if b then Some (first_port entry_name) else None) (sym ne.test) ∙ e))
+        | inl is ↦ record { into = is; from = sym (same_Some (first_port entry_name) q (ap (λ b. if b then Some (first_port entry_name) else None) (sym (same_test port_total port_same p (first_port exit_name) is)) ∙ e)) }
+        | inr ne ↦ absurd (none_some None q refl (ap (λ b. if b then Some (first_port entry_name) else None) (sym (other_test port_total port_same p (first_port exit_name) ne)) ∙ e))
       ]
 
 module _ (shape : Shape) (ok : IsShape shape) where
@@ -163,9 +169,9 @@ module _ (shape : Shape) (v : Token) where
   held_at : (p : Port) → held.wires p ≡ share exit_name (one v ∷ []) p ++ []
   held_at p =
       elim (port_cases p (first_port exit_name)) [
-        | inl is ↦ subst (λ x. held.wires x ≡ share exit_name (one v ∷ []) x ++ []) (sym is.is) refl
-        | inr ne ↦ ap (λ b. initial (kind_of (wire shape) (if b then Some (first_port entry_name) else None)) ++ share_from entry_name (one v ∷ []) (if b then Some (first_port entry_name) else None)) ne.test
-            ∙ ap (λ x. x ++ []) (sym (none_else p ne.is_not))
+        | inl is ↦ subst (λ x. held.wires x ≡ share exit_name (one v ∷ []) x ++ []) (sym is) refl
+        | inr ne ↦ ap (λ b. initial (kind_of (wire shape) (if b then Some (first_port entry_name) else None)) ++ share_from entry_name (one v ∷ []) (if b then Some (first_port entry_name) else None)) (other_test port_total port_same p (first_port exit_name) ne)
+            ∙ ap (λ x. x ++ []) (sym (none_else p ne))
       ]
 
   takes : Step (wire shape) held exit_name (Take v) left

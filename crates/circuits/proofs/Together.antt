@@ -5,9 +5,10 @@ use Rattle.components.specs.declared.kind.Kind.{Kind}
 use Rattle.components.specs.declared.kind.Kind.TheVariants.{Entry, Exit, Buffer}
 use Rattle.components.specs.Name.{Name, Port, port_get}
 use Rattle.components.specs.Kind.{Shape, ins, outs, KindOk}
+use Rattle.components.specs.Orders.{same_bytes, other_bytes}
 use Rattle.circuits.specs.Circuit.{Circuit, Typed, Wire}
 use Rattle.circuits.specs.Plug.{Link, link, redirect, beside, or_else, Apart}
-use Rattle.circuits.proofs.Names.{name_cases, other_test, same_test}
+use Rattle.circuits.proofs.Names.{name_cases}
 use Rattle.circuits.proofs.Linking.{CanLink, kind_other, kind_exit, kind_entry}
 use Rattle.circuits.proofs.Beside.{apart_none, apart_sym, kind_left, kind_right, unfed, none_some}
 
@@ -140,10 +141,10 @@ module _ (l : Link) (c : Circuit) (a : Shape) (can : CanLink l c a) where
       ]
 
   redirect_entry : (i : ℕ) → redirect l (Some (record { node = l.entry; port = i })) ≡ Some (record { node = l.exit; port = i })
-  redirect_entry i = ap (λ b. Some (if b then record { node = l.exit; port = i } else record { node = l.entry; port = i })) (same_test l.entry l.entry refl)
+  redirect_entry i = ap (λ b. Some (if b then record { node = l.exit; port = i } else record { node = l.entry; port = i })) (same_bytes l.entry l.entry refl)
 
   redirect_away : (q : Port) → q.node ≢ l.entry → redirect l (Some q) ≡ Some q
-  redirect_away q ne = ap (λ b. Some (if b then record { node = l.exit; port = q.port } else q)) (other_test q.node l.entry ne)
+  redirect_away q ne = ap (λ b. Some (if b then record { node = l.exit; port = q.port } else q)) (other_bytes q.node l.entry ne)
 
   outputs_at : Typed c → (q : Port) (k : Kind) (b : Shape) → Was l c a q.node k → port_get (outs k) q.port ≡ Some b → (p : Port) × ((link l c).feeder p ≡ Some q)
   outputs_at ty q k b (was_exit is ek) f =

@@ -6,6 +6,8 @@ use Rattle.components.specs.declared.kind.Kind.{Kind}
 use Rattle.components.specs.declared.kind.Kind.TheVariants.{Entry, Exit}
 use Rattle.components.specs.Name.{Name, Port}
 use Rattle.components.specs.Kind.{Shape}
+use Rattle.components.specs.Lookups.{other_test}
+use Rattle.components.specs.Orders.{port_total, port_same, port_cases}
 use Rattle.circuits.specs.PortTokens.{Token}
 use Rattle.circuits.specs.Circuit.{circuit_of, kind_of}
 use Rattle.circuits.specs.State.{State, start, initial}
@@ -13,7 +15,6 @@ use Rattle.circuits.specs.Run.{Firing, Firings}
 use Rattle.circuits.specs.Buffers.{first_port}
 use Rattle.circuits.specs.Drains.{IsInit, put_on, loaded, IsNoExit, Drains}
 use Rattle.circuits.specs.LoneWire.{entry_name, exit_name, lone_wire}
-use Rattle.circuits.proofs.Maps.{port_cases}
 use Rattle.circuits.proofs.Resting.{rests_without_init}
 use Rattle.circuits.proofs.LoneWire.{wire, is_wire, Node, Node.first, Node.last, node, no_fire}
 
@@ -51,10 +52,11 @@ module _ (shape : Shape) (ins outs : Name → List Token) where
   elsewhere p k (last is e) no_exit = absurd (subst IsNoExit e no_exit)
   elsewhere p k (first is e) no_exit =
       elim (port_cases p (first_port exit_name)) [
-        | inl same ↦ absurd (names_apart (sym is ∙ ap (λ (x : Port). x.node) same.is))
+        | inl same ↦ absurd (names_apart (sym is ∙ ap (λ (x : Port). x.node) same))
         | inr other ↦
-            ap (λ b. initial (kind_of (wire shape) (if b then Some (first_port entry_name) else None)) ++ put_on (wire shape) ins (if b then Some (first_port entry_name) else None)) other.test
-            ∙ ap (λ b. initial (kind_of (wire shape) (if b then Some (first_port entry_name) else None))) (sym other.test)
+            let test = other_test port_total port_same p (first_port exit_name) other in
+            ap (λ b. initial (kind_of (wire shape) (if b then Some (first_port entry_name) else None)) ++ put_on (wire shape) ins (if b then Some (first_port entry_name) else None)) test
+            ∙ ap (λ b. initial (kind_of (wire shape) (if b then Some (first_port entry_name) else None))) (sym test)
       ]
 
   drains : AllByRecursion (Fits shape) (ins entry_name) → outs exit_name ≡ ins entry_name → Drains (wire shape) ins outs
