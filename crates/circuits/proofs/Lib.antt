@@ -26,12 +26,6 @@ mod Parts
 mod Alone
 mod GraphCircuits
 mod GraphBuffers
-mod LoneWire
-mod WireDrains
 pub mod MadeSteps
-pub mod Listed
-mod LoneTagger
-mod TaggerRefuses
-mod LoneInit
 pub mod OneWay
 mod RestFound

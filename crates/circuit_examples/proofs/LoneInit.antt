@@ -6,8 +6,8 @@ use Rattle.std.proofs.lemmas.Option.{same_Some}
 use Rattle.port_types.specs.Token.{Fits}
 use Rattle.components.specs.declared.kind.Kind.{Kind}
 use Rattle.components.specs.declared.kind.Kind.TheVariants.{Entry, Exit, Buffer, Init}
-use Rattle.components.specs.Name.{Name, Port, port_cmp, port_get}
-use Rattle.components.specs.Kind.{Shape, field, ins, outs, KindOk}
+use Rattle.components.specs.Name.{Name, Port, port_cmp}
+use Rattle.components.specs.Kind.{Shape, field, KindOk}
 use Rattle.components.specs.NamedGraph.{IsTyped}
 use Rattle.components.specs.Lookups.{other_test}
 use Rattle.components.specs.Orders.{port_total, port_same, port_cases, same_bytes}
@@ -18,40 +18,16 @@ use Rattle.circuits.specs.Firing.{Label.Fire, Fires}
 use Rattle.circuits.specs.Run.{Step, Firing, Firings}
 use Rattle.circuits.specs.Buffers.{first_port}
 use Rattle.circuits.specs.Root.{Root.here}
+use Rattle.circuits.specs.Laws.{GraphIsTyped, RestIsOne}
 use Rattle.circuits.specs.Drains.{Led, IsRest, put_on, loaded, IsNoExit, Drains}
-use Rattle.circuits.specs.LoneInit.{bits, init, passer, out, init_nodes, init_wires, lone_init}
+use Rattle.circuit_examples.specs.LoneInit.{bits, init, passer, out, init_nodes, init_wires, lone_init}
 use Rattle.circuits.proofs.Names.{name_cases}
 use Rattle.circuits.proofs.Steps.{acts_at, share_same, share_other}
-use Rattle.circuits.proofs.Listed.{spelled, is_spelled, each_node, InputsFed, OutputsFeed, listed_typed}
-use Rattle.circuits.proofs.GraphCircuits.{graph_typed}
-use Rattle.circuits.proofs.Resting.{rest_is_one}
+use Rattle.circuit_examples.proofs.Listed.{spelled, is_spelled, each_node, no_in, no_out, one_in, one_out, other_node, listed_typed, graph_is_typed}
 
 module _ (value mark : ℕ) where
   abbrev c : Circuit
   c = spelled (init_nodes value mark) init_wires
-
-  -- its ports are on wires
-  no_in : (n : Name) (k : Kind) → ins k ≡ [] → InputsFed c n k
-  no_in n k e i a f = let z : None ≡ Some a = ap (λ x. port_get x i) (sym e) ∙ f in cc
-
-  no_out : (n : Name) (k : Kind) → outs k ≡ [] → OutputsFeed c n k
-  no_out n k e i a f = let z : None ≡ Some a = ap (λ x. port_get x i) (sym e) ∙ f in cc
-
-  one_of : (b a : Shape) (i : ℕ) → port_get (b ∷ []) i ≡ Some a → i ≡ 1
-  one_of b a zero f = let z : None ≡ Some a = f in cc
-  one_of b a (suc zero) f = refl
-  one_of b a (suc (suc i)) f = let z : None ≡ Some a = f in cc
-
-  one_in : (n : Name) (k : Kind) → ins k ≡ field 1 ∷ [] → (q : Port) → c.feeder (first_port n) ≡ Some q → InputsFed c n k
-  one_in n k e q fed i a f =
-      (q, ap (λ j. c.feeder (record { node = n; port = j })) (one_of (field 1) a i (ap (λ x. port_get x i) (sym e) ∙ f)) ∙ fed)
-
-  one_out : (n : Name) (k : Kind) → outs k ≡ field 1 ∷ [] → (p : Port) → c.feeder p ≡ Some (first_port n) → OutputsFeed c n k
-  one_out n k e p fed i a f =
-      (p, fed ∙ ap (λ j. Some (record { node = n; port = j })) (sym (one_of (field 1) a i (ap (λ x. port_get x i) (sym e) ∙ f))))
-
-  differ : (p q x y : Port) → p.node ≢ q.node → p ≡ q → x ≡ y
-  differ p q x y ne e = absurd (ne (ap (λ (z : Port). z.node) e))
 
   bits_init : bits ≢ init
   bits_init e = let z : false ≡ true = same_bytes bits init e in cc
@@ -82,32 +58,32 @@ module _ (value mark : ℕ) where
           ),
         );
         inputs = (
-          no_in bits (Entry (field 1)) refl,
+          no_in c bits (Entry (field 1)) refl,
           (
-            one_in init (Init value mark) refl (first_port bits) refl,
-            (one_in passer (Buffer (field 1)) refl (first_port init) refl, (one_in out (Exit (field 1)) refl (first_port passer) refl, tt)),
+            one_in c init (Init value mark) (field 1) refl (first_port bits) refl,
+            (one_in c passer (Buffer (field 1)) (field 1) refl (first_port init) refl, (one_in c out (Exit (field 1)) (field 1) refl (first_port passer) refl, tt)),
           ),
         );
         outputs = (
-          one_out bits (Entry (field 1)) refl (first_port init) refl,
+          one_out c bits (Entry (field 1)) (field 1) refl (first_port init) refl,
           (
-            one_out init (Init value mark) refl (first_port passer) refl,
-            (one_out passer (Buffer (field 1)) refl (first_port out) refl, (no_out out (Exit (field 1)) refl, tt)),
+            one_out c init (Init value mark) (field 1) refl (first_port passer) refl,
+            (one_out c passer (Buffer (field 1)) (field 1) refl (first_port out) refl, (no_out c out (Exit (field 1)) refl, tt)),
           ),
         );
         once = (
-          ((λ e. refl), (differ _ _ _ _ (λ e. bits_init (sym e)), (differ _ _ _ _ (λ e. bits_passer (sym e)), tt))),
+          ((λ e. refl), (other_node _ _ _ _ (λ e. bits_init (sym e)), (other_node _ _ _ _ (λ e. bits_passer (sym e)), tt))),
           (
-            (differ _ _ _ _ bits_init, ((λ e. refl), (differ _ _ _ _ (λ e. init_passer (sym e)), tt))),
-            ((differ _ _ _ _ bits_passer, (differ _ _ _ _ init_passer, ((λ e. refl), tt))), tt),
+            (other_node _ _ _ _ bits_init, ((λ e. refl), (other_node _ _ _ _ (λ e. init_passer (sym e)), tt))),
+            ((other_node _ _ _ _ bits_passer, (other_node _ _ _ _ init_passer, ((λ e. refl), tt))), tt),
           ),
         );
         size = 7;
         names = (omega arith, (omega arith, (omega arith, (omega arith, tt))));
       })
 
-  pub init_typed : KindOk (Init value mark) → IsTyped (lone_init value mark)
-  init_typed ok = graph_typed (lone_init value mark) (subst Typed (sym (is_spelled (init_nodes value mark) init_wires)) (typed ok))
+  pub init_typed : GraphIsTyped → KindOk (Init value mark) → IsTyped (lone_init value mark)
+  init_typed law ok = graph_is_typed law (init_nodes value mark) init_wires (typed ok)
 
   -- the state in which the wires into the Init, the Buffer and the Exit hold these
   abbrev held : List Token → List Token → List Token → Port → List Token
@@ -399,10 +375,10 @@ module _ (value mark : ℕ) where
     firings_keep s (f ∷ fs) t run =
         elim (passed s f.node f.choice run.0 run.1) [ inl h ↦ init_keeps s f.choice run.0 h | inr h ↦ passer_keeps s f.choice run.0 h ] ∙ firings_keep run.0 fs t run.2
 
-    drains_only : Drains c given gotten → AllByRecursion (Fits (field 1)) (given bits) × (gotten out ≡ single value ∷ given bits)
+    drains_only : RestIsOne → Drains c given gotten → AllByRecursion (Fits (field 1)) (given bits) × (gotten out ≡ single value ∷ given bits)
     unfolding rest
-    drains_only d =
-        let same : d.rest ≡ rest = rest_is_one c d.rest rest d.is_rest rests in
+    drains_only law d =
+        let same : d.rest ≡ rest = law c d.rest rest d.is_rest rests in
         let no_init : d.end.wires (first_port init) ≡ [] = d.others (first_port init) (Init value mark) refl tt ∙ ap (λ (s : State). s.wires (first_port init)) same in
         let no_passer : d.end.wires (first_port passer) ≡ [] = d.others (first_port passer) (Buffer (field 1)) refl tt ∙ ap (λ (s : State). s.wires (first_port passer)) same in
         let kept : single value ∷ given bits ≡ all_of d.end = sym (ap all_of (loaded_is given)) ∙ firings_keep (loaded c given) d.firings d.end d.leads in (
@@ -416,7 +392,7 @@ pub init_drains : (value mark : ℕ) (given gotten : Name → List Token) → Ki
 init_drains value mark given gotten ok fit is =
     subst (λ z. Drains z given gotten) (sym (is_spelled (init_nodes value mark) init_wires)) (drains value mark given gotten ok fit is)
 
-pub init_drains_only : (value mark : ℕ) (given gotten : Name → List Token) → Drains (circuit_of (lone_init value mark)) given gotten →
+pub init_drains_only : RestIsOne → (value mark : ℕ) (given gotten : Name → List Token) → Drains (circuit_of (lone_init value mark)) given gotten →
     AllByRecursion (Fits (field 1)) (given bits) × (gotten out ≡ single value ∷ given bits)
-init_drains_only value mark given gotten d =
-    drains_only value mark given gotten (subst (λ z. Drains z given gotten) (is_spelled (init_nodes value mark) init_wires) d)
+init_drains_only law value mark given gotten d =
+    drains_only value mark given gotten law (subst (λ z. Drains z given gotten) (is_spelled (init_nodes value mark) init_wires) d)
