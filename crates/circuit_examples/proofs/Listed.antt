@@ -127,7 +127,7 @@ other_port p q x y apart e = absurd (apart (ap (λ (z : Port). z.port) e))
 -- what is shown of each that is listed
 pub record ListedTyped (nodes : List ListedNode) (wires : List ListedWire) : Type 0 where
   pub kinds : AllByRecursion (λ node. KindOk node.kind) nodes
-  pub are_wires : AllByRecursion (λ wire. Wire (spelled nodes wires) wire.target wire.source) wires
+  pub are_wires : AllByRecursion (λ wire. Wire (spelled nodes wires) wire.source wire.target) wires
   pub inputs : AllByRecursion (λ node. InputsFed (spelled nodes wires) node.name node.kind) nodes
   pub outputs : AllByRecursion (λ node. OutputsFeed (spelled nodes wires) node.name node.kind) nodes
   pub once : AllByRecursion (λ wire. AllByRecursion (λ other. other.source ≡ wire.source → wire.target ≡ other.target) wires) wires
@@ -138,7 +138,7 @@ pub listed_typed : (nodes : List ListedNode) (wires : List ListedWire) → Liste
 listed_typed nodes wires h =
     record {
       kinds = each_node (λ n k. KindOk k) nodes h.kinds;
-      wires = each_wire (Wire (spelled nodes wires)) wires h.are_wires;
+      wires = each_wire (λ p q. Wire (spelled nodes wires) q p) wires h.are_wires;
       inputs = λ p k a e f. each_node (InputsFed (spelled nodes wires)) nodes h.inputs p.node k e p.port a f;
       outputs = λ q k a e f. each_node (OutputsFeed (spelled nodes wires)) nodes h.outputs q.node k e q.port a f;
       once = λ p r q e f. each_wire (λ x y. (z : Port) → feeder_in wires z ≡ Some y → x ≡ z) wires (once_each wires h.once) p q e r f;

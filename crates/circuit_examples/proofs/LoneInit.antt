@@ -51,10 +51,10 @@ module _ (value mark : ℕ) where
       (record {
         kinds = (bit_ok, (ok, (bit_ok, (bit_ok, tt))));
         are_wires = (
-          record { target = Init value mark; source = Entry (field 1); shape = field 1; is_target = refl; is_source = refl; enters = refl; leaves = refl },
+          record { to = Init value mark; from = Entry (field 1); shape = field 1; is_to = refl; is_from = refl; enters = refl; leaves = refl },
           (
-            record { target = Buffer (field 1); source = Init value mark; shape = field 1; is_target = refl; is_source = refl; enters = refl; leaves = refl },
-            (record { target = Exit (field 1); source = Buffer (field 1); shape = field 1; is_target = refl; is_source = refl; enters = refl; leaves = refl }, tt),
+            record { to = Buffer (field 1); from = Init value mark; shape = field 1; is_to = refl; is_from = refl; enters = refl; leaves = refl },
+            (record { to = Exit (field 1); from = Buffer (field 1); shape = field 1; is_to = refl; is_from = refl; enters = refl; leaves = refl }, tt),
           ),
         );
         inputs = (

@@ -83,12 +83,12 @@ alone_typed shape tags ok =
     (record {
       kinds = (ok.0, (ok.1, (ok.1, (ok.0, (ok, tt)))));
       are_wires = (
-        record { target = Tagger shape tags; source = Entry shape; shape = shape; is_target = refl; is_source = refl; enters = refl; leaves = refl },
+        record { to = Tagger shape tags; from = Entry shape; shape = shape; is_to = refl; is_from = refl; enters = refl; leaves = refl },
         (
-          record { target = Exit (tagged tags shape); source = Tagger shape tags; shape = tagged tags shape; is_target = refl; is_source = refl; enters = refl; leaves = refl },
+          record { to = Exit (tagged tags shape); from = Tagger shape tags; shape = tagged tags shape; is_to = refl; is_from = refl; enters = refl; leaves = refl },
           (
-            record { target = Tagger shape tags; source = Entry (tagged tags shape); shape = tagged tags shape; is_target = refl; is_source = refl; enters = refl; leaves = refl },
-            (record { target = Exit shape; source = Tagger shape tags; shape = shape; is_target = refl; is_source = refl; enters = refl; leaves = refl }, tt),
+            record { to = Tagger shape tags; from = Entry (tagged tags shape); shape = tagged tags shape; is_to = refl; is_from = refl; enters = refl; leaves = refl },
+            (record { to = Exit shape; from = Tagger shape tags; shape = shape; is_to = refl; is_from = refl; enters = refl; leaves = refl }, tt),
           ),
         ),
       );

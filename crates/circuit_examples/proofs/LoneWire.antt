@@ -33,7 +33,7 @@ typed shape ok =
     listed_typed (wire_nodes shape) wire_wires
     (record {
       kinds = (ok, (ok, tt));
-      are_wires = (record { target = Exit shape; source = Entry shape; shape = shape; is_target = refl; is_source = refl; enters = refl; leaves = refl }, tt);
+      are_wires = (record { to = Exit shape; from = Entry shape; shape = shape; is_to = refl; is_from = refl; enters = refl; leaves = refl }, tt);
       inputs = (no_in (wire shape) entry_name (Entry shape) refl, (one_in (wire shape) exit_name (Exit shape) shape refl (first_port entry_name) refl, tt));
       outputs = (one_out (wire shape) entry_name (Entry shape) shape refl (first_port exit_name) refl, (no_out (wire shape) exit_name (Exit shape) refl, tt));
       once = (((λ e. refl), tt), tt);

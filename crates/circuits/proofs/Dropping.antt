@@ -256,7 +256,7 @@ module _ (c : Circuit) (b : Name) (can : CanDrop c b) (ty : Typed c) where
   pub out_port : (p q : Port) → c.feeder p ≡ Some q → q.node ≡ b → q.port ≡ 1
   out_port p q f is =
       let w = ty.wires p q f in
-      let same : w.source ≡ can.kind = same_Some w.source can.kind (sym w.is_source ∙ ap c.kind_at is ∙ can.is_kind) in
+      let same : w.from ≡ can.kind = same_Some w.from can.kind (sym w.is_from ∙ ap c.kind_at is ∙ can.is_kind) in
       single_port can.shape w.shape q.port (ap (λ z. port_get z q.port) (sym (ap outs same ∙ can.plain.output)) ∙ w.leaves)
 
   -- when b fires, nothing is seen of it

@@ -43,15 +43,15 @@ module _ (g : NamedGraph) (ty : IsTyped g) where
   behind : (n : Name) (k : Kind) → (circuit_of g).kind_at n ≡ Some k → HasBody (map.get g.nodes n) k
   behind n k e = body_behind (map.get g.nodes n) k e
 
-  wire_of : (p q : Port) → map.get g.feeders p ≡ Some q → Wire (circuit_of g) p q
+  wire_of : (p q : Port) → map.get g.feeders p ≡ Some q → Wire (circuit_of g) q p
   wire_of p q e =
       let w = ty.wires p q e in
       record {
-        target = w.to.kind;
-        source = w.from.kind;
+        to = w.to.kind;
+        from = w.from.kind;
         shape = w.shape;
-        is_target = ap kind_of_body w.is_to;
-        is_source = ap kind_of_body w.is_from;
+        is_to = ap kind_of_body w.is_to;
+        is_from = ap kind_of_body w.is_from;
         enters = w.enters;
         leaves = w.leaves;
       }
@@ -75,8 +75,8 @@ module _ (g : NamedGraph) (ty : Typed (circuit_of g)) where
   graph_wire : (target source : Port) → map.get g.feeders target ≡ Some source → IsWire g source target
   graph_wire target source e =
       let w = ty.wires target source e in
-      let from = body_behind (map.get g.nodes source.node) w.source w.is_source in
-      let to = body_behind (map.get g.nodes target.node) w.target w.is_target in
+      let from = body_behind (map.get g.nodes source.node) w.from w.is_from in
+      let to = body_behind (map.get g.nodes target.node) w.to w.is_to in
       record {
         from = from.body;
         to = to.body;

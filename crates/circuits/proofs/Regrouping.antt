@@ -46,7 +46,7 @@ module _ (c d : Circuit) (l : Link) (aw : Away c l) (ty : Typed c) where
   right_feeder p None e = refl
   right_feeder p (Some q) e =
       let w = ty.wires p q e in
-      sym (redirect_away l q (λ is. none_some (c.kind_at q.node) w.source (ap c.kind_at is ∙ aw.entry) w.is_source))
+      sym (redirect_away l q (λ is. none_some (c.kind_at q.node) w.from (ap c.kind_at is ∙ aw.entry) w.is_from))
 
   link_right : beside c (link l d) ≡ link l (beside c d)
   link_right = circuit_same _ _ (λ n. right_kind n (c.kind_at n) refl) (λ p. right_feeder p (c.feeder p) refl)
@@ -72,7 +72,7 @@ module _ (c d : Circuit) (l : Link) (aw : Away d l) (ty : Typed d) where
   left_feeder p None None e = refl
   left_feeder p None (Some q) e =
       let w = ty.wires p q e in
-      sym (redirect_away l q (λ is. none_some (d.kind_at q.node) w.source (ap d.kind_at is ∙ aw.entry) w.is_source))
+      sym (redirect_away l q (λ is. none_some (d.kind_at q.node) w.from (ap d.kind_at is ∙ aw.entry) w.is_from))
   left_feeder p (Some q) o' e = refl
 
   link_left : beside (link l c) d ≡ link l (beside c d)

@@ -177,7 +177,7 @@ feeder_fixed_at x c ty fixed p None e = unfed c ty (port_to x p) (kind_fixed x c
 
 source_fixed : (x : Swap) (c : Circuit) → Typed c → ((n : Name) (k : Kind) → c.kind_at n ≡ Some k → x.to n ≡ n) → (p : Port) (o : Option Port) → c.feeder p ≡ o → fed_to x o ≡ o
 source_fixed x c ty fixed p None f = refl
-source_fixed x c ty fixed p (Some q) f = let w = ty.wires p q f in λ i. Some (record { node = fixed q.node w.source w.is_source i; port = q.port })
+source_fixed x c ty fixed p (Some q) f = let w = ty.wires p q f in λ i. Some (record { node = fixed q.node w.from w.is_from i; port = q.port })
 
 pub renamed_fixed : (x : Swap) (c : Circuit) → Typed c → ((n : Name) (k : Kind) → c.kind_at n ≡ Some k → x.to n ≡ n) → renamed x c ≡ c
 renamed_fixed x c ty fixed =

@@ -33,7 +33,7 @@ typed_to x c ty =
       kinds = λ n k e. ty.kinds (x.to n) k e;
       wires = λ p q e.
           let w = ty.wires (port_to x p) (port_to x q) (fed_source x c p q e) in
-          record { target = w.target; source = w.source; shape = w.shape; is_target = w.is_target; is_source = w.is_source; enters = w.enters; leaves = w.leaves };
+          record { to = w.to; from = w.from; shape = w.shape; is_to = w.is_to; is_from = w.is_from; enters = w.enters; leaves = w.leaves };
       inputs = λ p k a e f. let (q, g) = ty.inputs (port_to x p) k a e f in (port_to x q, ap (fed_to x) g);
       outputs = λ q k a e f.
           let (p, g) = ty.outputs (port_to x q) k a e f in
