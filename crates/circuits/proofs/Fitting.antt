@@ -79,7 +79,7 @@ start_fit_at c ty p k a ek ea (Some q) f =
 pub start_fits : (c : Circuit) → Typed c → IsStateOf c (start c)
 start_fits c ty = record { wires = λ p k a ek ea. start_fit_at c ty p k a ek ea (c.feeder p) refl; slots = λ n k e. tt; tags = λ n k e. tt }
 
-run_fits : ValueFits → (c : Circuit) → Typed c → (s : State) (ms : List Move) (t : State) → Run c s ms t → IsStateOf c s → IsStateOf c t
+pub run_fits : ValueFits → (c : Circuit) → Typed c → (s : State) (ms : List Move) (t : State) → Run c s ms t → IsStateOf c s → IsStateOf c t
 run_fits values c ty s [] t run h = subst (IsStateOf c) run h
 run_fits values c ty s (m ∷ ms) t run h = run_fits values c ty run.0 ms t run.2 (step_fits values c ty s m.node m.label run.0 run.1 h)
 
