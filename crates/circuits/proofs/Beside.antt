@@ -44,7 +44,7 @@ none_some o x e f = let g : None ≡ Some x = sym e ∙ f in cc
 
 unfed_at : (c : Circuit) → Typed c → (p : Port) → c.kind_at p.node ≡ None → (o : Option Port) → c.feeder p ≡ o → c.feeder p ≡ None
 unfed_at c ty p e None f = f
-unfed_at c ty p e (Some q) f = absurd (none_some (c.kind_at p.node) (ty.wires p q f).target e (ty.wires p q f).is_target)
+unfed_at c ty p e (Some q) f = absurd (none_some (c.kind_at p.node) (ty.wires p q f).to e (ty.wires p q f).is_to)
 
 pub unfed : (c : Circuit) → Typed c → (p : Port) → c.kind_at p.node ≡ None → c.feeder p ≡ None
 unfed c ty p e = unfed_at c ty p e (c.feeder p) refl
@@ -148,7 +148,7 @@ share_left_at : (c d : Circuit) → Apart c d → Typed d → (n : Name) (k : Ki
 share_left_at c d h ty n k e side p (Some q) o' f = refl
 share_left_at c d h ty n k e side p None None f = refl
 share_left_at c d h ty n k e side p None (Some q) f =
-    share_other n side q (λ is. none_some (d.kind_at n) (ty.wires p q f).source (apart_none c d h n k e) (ap d.kind_at (sym is) ∙ (ty.wires p q f).is_source))
+    share_other n side q (λ is. none_some (d.kind_at n) (ty.wires p q f).from (apart_none c d h n k e) (ap d.kind_at (sym is) ∙ (ty.wires p q f).is_from))
 
 share_left : (c d : Circuit) → Apart c d → Typed d → (n : Name) (k : Kind) → c.kind_at n ≡ Some k → (side : List (List Token)) (p : Port) → share_from n side ((beside c d).feeder p) ≡ share_from n side (c.feeder p)
 share_left c d h ty n k e side p = share_left_at c d h ty n k e side p (c.feeder p) (d.feeder p) refl
@@ -156,8 +156,8 @@ share_left c d h ty n k e side p = share_left_at c d h ty n k e side p (c.feeder
 share_right_at : (c d : Circuit) → Apart c d → Typed c → Typed d → (n : Name) (k : Kind) → d.kind_at n ≡ Some k → (side : List (List Token)) (p : Port) (o : Option Port) → c.feeder p ≡ o → share_from n side (or_else o (d.feeder p)) ≡ share_from n side (d.feeder p)
 share_right_at c d h tc td n k e side p None f = refl
 share_right_at c d h tc td n k e side p (Some q) f =
-    share_other n side q (λ is. h n (tc.wires p q f).source k (ap c.kind_at (sym is) ∙ (tc.wires p q f).is_source) e)
-    ∙ sym (ap (share_from n side) (unfed d td p (apart_none c d h p.node (tc.wires p q f).target (tc.wires p q f).is_target)))
+    share_other n side q (λ is. h n (tc.wires p q f).from k (ap c.kind_at (sym is) ∙ (tc.wires p q f).is_from) e)
+    ∙ sym (ap (share_from n side) (unfed d td p (apart_none c d h p.node (tc.wires p q f).to (tc.wires p q f).is_to)))
 
 share_right : (c d : Circuit) → Apart c d → Typed c → Typed d → (n : Name) (k : Kind) → d.kind_at n ≡ Some k → (side : List (List Token)) (p : Port) → share_from n side ((beside c d).feeder p) ≡ share_from n side (d.feeder p)
 share_right c d h tc td n k e side p = share_right_at c d h tc td n k e side p (c.feeder p) refl
@@ -214,7 +214,7 @@ inner_right c d h tc td s t k = record { firings = k.firings; leads = firings_ri
 initial_left : (c d : Circuit) → Apart c d → Typed c → Typed d → (p : Port) (k : Kind) → c.kind_at p.node ≡ Some k → (o : Option Port) → c.feeder p ≡ o → initial (kind_of (beside c d) (or_else o (d.feeder p))) ≡ initial (kind_of c o)
 initial_left c d h tc td p k e None f = ap (λ o. initial (kind_of (beside c d) o)) (unfed d td p (apart_none c d h p.node k e))
 initial_left c d h tc td p k e (Some q) f =
-    ap initial (kind_left c d q.node (tc.wires p q f).source (tc.wires p q f).is_source) ∙ sym (ap initial (tc.wires p q f).is_source)
+    ap initial (kind_left c d q.node (tc.wires p q f).from (tc.wires p q f).is_from) ∙ sym (ap initial (tc.wires p q f).is_from)
 
 agree_left : (c d : Circuit) → Apart c d → Typed c → Typed d → Agree c (start (beside c d)) (start c)
 agree_left c d h tc td = record { wires = λ p k e. initial_left c d h tc td p k e (c.feeder p) refl; slots = λ n k e. refl }
@@ -222,7 +222,7 @@ agree_left c d h tc td = record { wires = λ p k e. initial_left c d h tc td p k
 initial_right : (c d : Circuit) → Apart c d → Typed d → (p : Port) (o : Option Port) → d.feeder p ≡ o → initial (kind_of (beside c d) o) ≡ initial (kind_of d o)
 initial_right c d h td p None f = refl
 initial_right c d h td p (Some q) f =
-    ap initial (kind_right c d q.node (apart_none d c (apart_sym c d h) q.node (td.wires p q f).source (td.wires p q f).is_source))
+    ap initial (kind_right c d q.node (apart_none d c (apart_sym c d h) q.node (td.wires p q f).from (td.wires p q f).is_from))
 
 agree_right : (c d : Circuit) → Apart c d → Typed c → Typed d → Agree d (start (beside c d)) (start d)
 agree_right c d h tc td =

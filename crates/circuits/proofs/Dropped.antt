@@ -6,10 +6,11 @@ use Rattle.components.specs.declared.kind.Kind.{Kind}
 use Rattle.components.specs.declared.kind.Kind.TheVariants.{Entry, Exit, Buffer, Fork}
 use Rattle.components.specs.Name.{Name, Port, port_get}
 use Rattle.components.specs.Kind.{Shape, ins, outs}
+use Rattle.components.specs.Orders.{same_bytes, other_bytes}
 use Rattle.circuits.specs.Circuit.{Circuit, Wire, Typed}
 use Rattle.circuits.specs.Refines.{SamePorts, Refines}
 use Rattle.circuits.specs.Buffers.{bypass, drop_node, IsBufferLike, CanDropBuffer}
-use Rattle.circuits.proofs.Names.{name_cases, other_test, same_test}
+use Rattle.circuits.proofs.Names.{name_cases}
 use Rattle.circuits.proofs.Matching.{matches_refines}
 use Rattle.circuits.proofs.Dropping.{CanDrop, IsPlain, buffer_plain, fork_plain, kind_dropped, kind_gone, feeder_dropped, feeder_gone, single_port, out_port, drop_matches, undrop_matches}
 
@@ -47,24 +48,24 @@ module _ (c : Circuit) (b : Name) (can : CanDrop c b) (ty : Typed c) where
   pub fed_straight : (p q : Port) → p.node ≢ b → c.feeder p ≡ Some q → q.node ≢ b → (drop_node b c).feeder p ≡ Some q
   fed_straight p q away f ne =
       feeder_dropped c b can p away ∙ ap (bypass b (c.feeder (record { node = b; port = 1 }))) f
-      ∙ ap (λ z. if z then c.feeder (record { node = b; port = 1 }) else Some q) (other_test q.node b ne)
+      ∙ ap (λ z. if z then c.feeder (record { node = b; port = 1 }) else Some q) (other_bytes q.node b ne)
 
   pub fed_across : (p r : Port) → p.node ≢ b → c.feeder p ≡ Some r → r.node ≡ b → (drop_node b c).feeder p ≡ c.feeder (record { node = b; port = 1 })
   fed_across p r away f is =
       feeder_dropped c b can p away ∙ ap (bypass b (c.feeder (record { node = b; port = 1 }))) f
-      ∙ ap (λ z. if z then c.feeder (record { node = b; port = 1 }) else Some r) (same_test r.node b is)
+      ∙ ap (λ z. if z then c.feeder (record { node = b; port = 1 }) else Some r) (same_bytes r.node b is)
 
-  source_kind : (p q : Port) (f : c.feeder p ≡ Some q) → q.node ≡ b → (ty.wires p q f).source ≡ can.kind
-  source_kind p q f is = same_Some _ can.kind (sym (ty.wires p q f).is_source ∙ ap c.kind_at is ∙ can.is_kind)
+  source_kind : (p q : Port) (f : c.feeder p ≡ Some q) → q.node ≡ b → (ty.wires p q f).from ≡ can.kind
+  source_kind p q f is = same_Some _ can.kind (sym (ty.wires p q f).is_from ∙ ap c.kind_at is ∙ can.is_kind)
 
-  target_kind : (p q : Port) (f : c.feeder p ≡ Some q) → p.node ≡ b → (ty.wires p q f).target ≡ can.kind
-  target_kind p q f is = same_Some _ can.kind (sym (ty.wires p q f).is_target ∙ ap c.kind_at is ∙ can.is_kind)
+  target_kind : (p q : Port) (f : c.feeder p ≡ Some q) → p.node ≡ b → (ty.wires p q f).to ≡ can.kind
+  target_kind p q f is = same_Some _ can.kind (sym (ty.wires p q f).is_to ∙ ap c.kind_at is ∙ can.is_kind)
 
   -- a port of b is its one port
-  out_is : (p q : Port) → c.feeder p ≡ Some q → q.node ≡ b → q ≡ record { node = b; port = 1 }
+  pub out_is : (p q : Port) → c.feeder p ≡ Some q → q.node ≡ b → q ≡ record { node = b; port = 1 }
   out_is p q f is = λ i. record { node = is i; port = out_port c b can ty p q f is i }
 
-  in_is : (p q : Port) → c.feeder p ≡ Some q → p.node ≡ b → p ≡ record { node = b; port = 1 }
+  pub in_is : (p q : Port) → c.feeder p ≡ Some q → p.node ≡ b → p ≡ record { node = b; port = 1 }
   in_is p q f is =
       let w = ty.wires p q f in
       let e : p.port ≡ 1 = single_port can.shape w.shape p.port (ap (λ z. port_get z p.port) (sym (ap ins (target_kind p q f is) ∙ can.plain.input)) ∙ w.enters) in
@@ -73,15 +74,15 @@ module _ (c : Circuit) (b : Name) (can : CanDrop c b) (ty : Typed c) where
   before_is : (q : Port) → c.feeder (record { node = b; port = 1 }) ≡ Some q → can.before ≡ q
   before_is q f = same_Some can.before q (sym can.is_before ∙ f)
 
-  wire_of : (p q : Port) → p.node ≢ b → Fed c b p q → Wire (drop_node b c) p q
+  wire_of : (p q : Port) → p.node ≢ b → Fed c b p q → Wire (drop_node b c) q p
   wire_of p q away (straight f ne) =
       let w = ty.wires p q f in
       record {
-        target = w.target;
-        source = w.source;
+        to = w.to;
+        from = w.from;
         shape = w.shape;
-        is_target = kind_dropped c b can p.node away ∙ w.is_target;
-        is_source = kind_dropped c b can q.node ne ∙ w.is_source;
+        is_to = kind_dropped c b can p.node away ∙ w.is_to;
+        is_from = kind_dropped c b can q.node ne ∙ w.is_from;
         enters = w.enters;
         leaves = w.leaves;
       }
@@ -92,11 +93,11 @@ module _ (c : Circuit) (b : Name) (can : CanDrop c b) (ty : Typed c) where
       let one : w.shape ≡ can.shape = same_Some w.shape can.shape (sym w.leaves ∙ (λ i. port_get ((ap outs (source_kind p r f is) ∙ can.plain.output) i) (out_port c b can ty p r f is i))) in
       let two : v.shape ≡ can.shape = same_Some v.shape can.shape (sym v.enters ∙ ap (λ z. port_get z 1) (ap ins (target_kind (record { node = b; port = 1 }) q g refl) ∙ can.plain.input)) in
       record {
-        target = w.target;
-        source = v.source;
+        to = w.to;
+        from = v.from;
         shape = w.shape;
-        is_target = kind_dropped c b can p.node away ∙ w.is_target;
-        is_source = kind_dropped c b can q.node ne ∙ v.is_source;
+        is_to = kind_dropped c b can p.node away ∙ w.is_to;
+        is_from = kind_dropped c b can q.node ne ∙ v.is_from;
         enters = w.enters;
         leaves = v.leaves ∙ ap Some (two ∙ sym one);
       }

@@ -6,13 +6,14 @@ use Rattle.components.specs.declared.kind.Kind.{Kind}
 use Rattle.components.specs.declared.kind.Kind.TheVariants.{Entry, Buffer, Fork}
 use Rattle.components.specs.Name.{Name, Port, port_get}
 use Rattle.components.specs.Kind.{Shape, ins, outs}
+use Rattle.components.specs.Orders.{same_bytes, other_bytes}
 use Rattle.circuits.specs.PortTokens.{Token, share, share_from, at_port, one}
 use Rattle.circuits.specs.Circuit.{Circuit, kind_of, Typed}
 use Rattle.circuits.specs.State.{Slot, State, start, initial}
 use Rattle.circuits.specs.Firing.{Label, Label.Feed, Label.Take, Label.Fire, Acts, Fires}
 use Rattle.circuits.specs.Run.{Step}
 use Rattle.circuits.specs.Buffers.{bypass, drop_node}
-use Rattle.circuits.proofs.Names.{name_cases, other_test, same_test}
+use Rattle.circuits.proofs.Names.{name_cases}
 use Rattle.circuits.proofs.Steps.{acts_at, share_none, share_other, share_same, append_none}
 use Rattle.circuits.proofs.Sim.{Inner, inner_then, inner_one, inner_none}
 use Rattle.circuits.proofs.Matching.{Matches}
@@ -83,19 +84,19 @@ glued b t w n given before ne e rest (Some q) =
 
 module _ (c : Circuit) (b : Name) (can : CanDrop c b) where
   pub kind_dropped : (n : Name) → n ≢ b → (drop_node b c).kind_at n ≡ c.kind_at n
-  kind_dropped n ne = ap (λ z. if z then None else c.kind_at n) (other_test n b ne)
+  kind_dropped n ne = ap (λ z. if z then None else c.kind_at n) (other_bytes n b ne)
 
   pub kind_gone : (n : Name) → n ≡ b → (drop_node b c).kind_at n ≡ None
-  kind_gone n is = ap (λ z. if z then None else c.kind_at n) (same_test n b is)
+  kind_gone n is = ap (λ z. if z then None else c.kind_at n) (same_bytes n b is)
 
   pub no_step : (s : State) (n : Name) (l : Label) (t : State) → Step (drop_node b c) s n l t → n ≢ b
   no_step s n l t st is = let k : None ≡ Some st.kind = sym (kind_gone n is) ∙ st.is_kind in cc
 
   pub feeder_dropped : (p : Port) → p.node ≢ b → (drop_node b c).feeder p ≡ bypass b (c.feeder (record { node = b; port = 1 })) (c.feeder p)
-  feeder_dropped p ne = ap (λ z. if z then None else bypass b (c.feeder (record { node = b; port = 1 })) (c.feeder p)) (other_test p.node b ne)
+  feeder_dropped p ne = ap (λ z. if z then None else bypass b (c.feeder (record { node = b; port = 1 })) (c.feeder p)) (other_bytes p.node b ne)
 
   pub feeder_gone : (p : Port) → p.node ≡ b → (drop_node b c).feeder p ≡ None
-  feeder_gone p is = ap (λ z. if z then None else bypass b (c.feeder (record { node = b; port = 1 })) (c.feeder p)) (same_test p.node b is)
+  feeder_gone p is = ap (λ z. if z then None else bypass b (c.feeder (record { node = b; port = 1 })) (c.feeder p)) (same_bytes p.node b is)
 
   -- a step of another node of c is a step without b
   module _ (s t : State) (ahead : Ahead c b s t) (n : Name) (l : Label) (w : State) (ne : n ≢ b) (st : Step c t n l w) where
@@ -127,7 +128,7 @@ module _ (c : Circuit) (b : Name) (can : CanDrop c b) where
           taken = st.taken;
           given = st.given;
           acts = subst (λ z. Acts st.kind l z st.taken st.given (if bytes_eq n b then s.slots n else w.slots n)) (sym (ahead.slots n ne))
-              (subst (λ z. Acts st.kind l (t.slots n) st.taken st.given (if z then s.slots n else w.slots n)) (sym (other_test n b ne)) st.acts);
+              (subst (λ z. Acts st.kind l (t.slots n) st.taken st.given (if z then s.slots n else w.slots n)) (sym (other_bytes n b ne)) st.acts);
           between = down_between;
           takes = down_takes;
           gives = λ p. refl;
@@ -149,11 +150,11 @@ module _ (c : Circuit) (b : Name) (can : CanDrop c b) where
     down_ahead =
         record {
           wires = λ p away.
-              ap (λ z. (if z then s.wires p else st.between p ++ held b t (c.feeder p)) ++ share_from n st.given ((drop_node b c).feeder p)) (other_test p.node b away)
+              ap (λ z. (if z then s.wires p else st.between p ++ held b t (c.feeder p)) ++ share_from n st.given ((drop_node b c).feeder p)) (other_bytes p.node b away)
               ∙ ap (λ z. (st.between p ++ held b t (c.feeder p)) ++ share_from n st.given z) (feeder_dropped p away)
               ∙ glued b t w n st.given (c.feeder (record { node = b; port = 1 })) ne before_moves (st.between p) (c.feeder p)
               ∙ ap (λ z. z ++ held b w (c.feeder p)) (sym (st.gives p));
-          slots = λ m away. ap (λ z. if z then s.slots m else w.slots m) (other_test m b away);
+          slots = λ m away. ap (λ z. if z then s.slots m else w.slots m) (other_bytes m b away);
         }
 
   -- a step without b is a step of c, where c's wires have at their heads what is taken
@@ -187,7 +188,7 @@ module _ (c : Circuit) (b : Name) (can : CanDrop c b) where
           taken = st.taken;
           given = st.given;
           acts = subst (λ z. Acts st.kind l z st.taken st.given (if bytes_eq n b then t.slots n else u.slots n)) (ahead.slots n ne)
-              (subst (λ z. Acts st.kind l (s.slots n) st.taken st.given (if z then t.slots n else u.slots n)) (sym (other_test n b ne)) st.acts);
+              (subst (λ z. Acts st.kind l (s.slots n) st.taken st.given (if z then t.slots n else u.slots n)) (sym (other_bytes n b ne)) st.acts);
           between = up_between;
           takes = up_takes;
           gives = λ p. refl;
@@ -200,7 +201,7 @@ module _ (c : Circuit) (b : Name) (can : CanDrop c b) where
 
     up_before : up_to.wires (record { node = b; port = 1 }) ≡ t.wires (record { node = b; port = 1 }) ++ share_from n st.given (c.feeder (record { node = b; port = 1 }))
     unfolding up_to up_between
-    up_before = rw (same_test b b refl)
+    up_before = rw (same_bytes b b refl)
 
     between_rest : (p : Port) → p.node ≢ b → st.between p ≡ rest p ++ held b t (c.feeder p)
     between_rest p away =
@@ -209,11 +210,11 @@ module _ (c : Circuit) (b : Name) (can : CanDrop c b) where
 
     up_wires : (p : Port) → p.node ≢ b → rest p ++ share_from n st.given (c.feeder p) ≡ up_to.wires p
     unfolding up_to up_between
-    up_wires p away = rw (other_test p.node b away)
+    up_wires p away = rw (other_bytes p.node b away)
 
     up_slots : (m : Name) → m ≢ b → u.slots m ≡ up_to.slots m
     unfolding up_to
-    up_slots m away = rw (other_test m b away)
+    up_slots m away = rw (other_bytes m b away)
 
     pub up_ahead : Ahead c b u up_to
     up_ahead =
@@ -255,7 +256,7 @@ module _ (c : Circuit) (b : Name) (can : CanDrop c b) (ty : Typed c) where
   pub out_port : (p q : Port) → c.feeder p ≡ Some q → q.node ≡ b → q.port ≡ 1
   out_port p q f is =
       let w = ty.wires p q f in
-      let same : w.source ≡ can.kind = same_Some w.source can.kind (sym w.is_source ∙ ap c.kind_at is ∙ can.is_kind) in
+      let same : w.from ≡ can.kind = same_Some w.from can.kind (sym w.is_from ∙ ap c.kind_at is ∙ can.is_kind) in
       single_port can.shape w.shape q.port (ap (λ z. port_get z q.port) (sym (ap outs same ∙ can.plain.output)) ∙ w.leaves)
 
   -- when b fires, nothing is seen of it
@@ -328,7 +329,7 @@ module _ (c : Circuit) (b : Name) (can : CanDrop c b) (ty : Typed c) where
   passed : (t : State) (v : Token) (vs : List Token) → (passing t v vs).wires (record { node = b; port = 1 }) ≡ vs
   unfolding passing
   passed t v vs =
-      ap (λ z. (if z then rest_at vs (λ i. t.wires (record { node = b; port = i })) 1 else t.wires (record { node = b; port = 1 })) ++ share_from b (one v ∷ []) (c.feeder (record { node = b; port = 1 }))) (same_test b b refl)
+      ap (λ z. (if z then rest_at vs (λ i. t.wires (record { node = b; port = i })) 1 else t.wires (record { node = b; port = 1 })) ++ share_from b (one v ∷ []) (c.feeder (record { node = b; port = 1 }))) (same_bytes b b refl)
       ∙ ap (λ z. rest_at vs (λ i. t.wires (record { node = b; port = i })) 1 ++ share_from b (one v ∷ []) z) can.is_before
       ∙ ap (λ z. rest_at vs (λ i. t.wires (record { node = b; port = i })) 1 ++ z) (share_other b (one v ∷ []) can.before can.other)
       ∙ append-nil (rest_at vs (λ i. t.wires (record { node = b; port = i })) 1) ∙ rest_one vs (λ i. t.wires (record { node = b; port = i }))

@@ -39,9 +39,9 @@ module _ (values : ValueFits) (c : Circuit) (ty : Typed c) (s : State) (n : Name
       elim (name_cases q.node n) [
         | inl is ↦
             let w = ty.wires p q f in
-            let same : w.shape ≡ a = same_Some w.shape a (sym w.enters ∙ ap (λ x. port_get (ins x) p.port) (same_Some w.target k (sym w.is_target ∙ ek)) ∙ ea) in
+            let same : w.shape ≡ a = same_Some w.shape a (sym w.enters ∙ ap (λ x. port_get (ins x) p.port) (same_Some w.to k (sym w.is_to ∙ ek)) ∙ ea) in
             let leaves : port_get (outs st.kind) q.port ≡ Some w.shape =
-            ap (λ x. port_get (outs x) q.port) (same_Some st.kind w.source (sym st.is_kind ∙ ap c.kind_at (sym is.is) ∙ w.is_source)) ∙ w.leaves in
+            ap (λ x. port_get (outs x) q.port) (same_Some st.kind w.from (sym st.is_kind ∙ ap c.kind_at (sym is.is) ∙ w.is_from)) ∙ w.leaves in
             subst (λ z. AllByRecursion (Fits z) (share n st.given q)) same
             (subst (AllByRecursion (Fits w.shape)) (sym (share_same n st.given q is.is)) (ports_of (outs st.kind) st.given given_fit.side q.port w.shape leaves))
         | inr ne ↦ subst (AllByRecursion (Fits a)) (sym (share_other n st.given q ne.is_not)) tt
@@ -73,13 +73,13 @@ start_fit_at : (c : Circuit) → Typed c → (p : Port) (k : Kind) (a : Shape) �
 start_fit_at c ty p k a ek ea None f = tt
 start_fit_at c ty p k a ek ea (Some q) f =
     let w = ty.wires p q f in
-    let same : w.shape ≡ a = same_Some w.shape a (sym w.enters ∙ ap (λ x. port_get (ins x) p.port) (same_Some w.target k (sym w.is_target ∙ ek)) ∙ ea) in
-    subst (λ z. AllByRecursion (Fits a) (initial z)) (sym w.is_source) (initial_fit w.source (ty.kinds q.node w.source w.is_source) q.port a (w.leaves ∙ ap Some same))
+    let same : w.shape ≡ a = same_Some w.shape a (sym w.enters ∙ ap (λ x. port_get (ins x) p.port) (same_Some w.to k (sym w.is_to ∙ ek)) ∙ ea) in
+    subst (λ z. AllByRecursion (Fits a) (initial z)) (sym w.is_from) (initial_fit w.from (ty.kinds q.node w.from w.is_from) q.port a (w.leaves ∙ ap Some same))
 
 pub start_fits : (c : Circuit) → Typed c → IsStateOf c (start c)
 start_fits c ty = record { wires = λ p k a ek ea. start_fit_at c ty p k a ek ea (c.feeder p) refl; slots = λ n k e. tt; tags = λ n k e. tt }
 
-run_fits : ValueFits → (c : Circuit) → Typed c → (s : State) (ms : List Move) (t : State) → Run c s ms t → IsStateOf c s → IsStateOf c t
+pub run_fits : ValueFits → (c : Circuit) → Typed c → (s : State) (ms : List Move) (t : State) → Run c s ms t → IsStateOf c s → IsStateOf c t
 run_fits values c ty s [] t run h = subst (IsStateOf c) run h
 run_fits values c ty s (m ∷ ms) t run h = run_fits values c ty run.0 ms t run.2 (step_fits values c ty s m.node m.label run.0 run.1 h)
 

@@ -7,9 +7,9 @@ use Rattle.components.specs.Name.{Name, Port, name_cmp, port_get}
 use Rattle.components.specs.Kind.{ins, outs, KindOk}
 use Rattle.components.specs.Node.{Body}
 use Rattle.components.specs.NamedGraph.{NamedGraph, IsWire, IsTyped}
+use Rattle.components.specs.Lookups.{other_test}
+use Rattle.components.specs.Orders.{name_total, name_same, name_cases}
 use Rattle.circuits.specs.Circuit.{Wire, Typed, circuit_of, kind_of_body}
-use Rattle.circuits.proofs.Names.{name_cases}
-use Rattle.circuits.proofs.Maps.{name_test}
 
 -- the node behind a kind
 pub record HasBody (o : Option Body) (k : Kind) : Type 0 where
@@ -31,9 +31,9 @@ unfolding total_length
 name_short [] n body e = let z : None ≡ Some body = e in cc
 name_short (x ∷ es) n body e =
     elim (name_cases n x.0) [
-      | inl same ↦ let long : length n ≡ length x.0 = ap length same.is in omega (arith, long)
+      | inl same ↦ let long : length n ≡ length x.0 = ap length same in omega (arith, long)
       | inr other ↦
-          let later : map.find name_cmp n es ≡ Some body = sym (ap (λ b. cond b (Some x.1) (map.find name_cmp n es)) (name_test n x.0 ∙ other.test)) ∙ e in
+          let later : map.find name_cmp n es ≡ Some body = sym (ap (λ b. cond b (Some x.1) (map.find name_cmp n es)) (other_test name_total name_same n x.0 other)) ∙ e in
           let short = name_short es n body later in
           omega (arith, short)
     ]
@@ -43,15 +43,15 @@ module _ (g : NamedGraph) (ty : IsTyped g) where
   behind : (n : Name) (k : Kind) → (circuit_of g).kind_at n ≡ Some k → HasBody (map.get g.nodes n) k
   behind n k e = body_behind (map.get g.nodes n) k e
 
-  wire_of : (p q : Port) → map.get g.feeders p ≡ Some q → Wire (circuit_of g) p q
+  wire_of : (p q : Port) → map.get g.feeders p ≡ Some q → Wire (circuit_of g) q p
   wire_of p q e =
       let w = ty.wires p q e in
       record {
-        target = w.to.kind;
-        source = w.from.kind;
+        to = w.to.kind;
+        from = w.from.kind;
         shape = w.shape;
-        is_target = ap kind_of_body w.is_to;
-        is_source = ap kind_of_body w.is_from;
+        is_to = ap kind_of_body w.is_to;
+        is_from = ap kind_of_body w.is_from;
         enters = w.enters;
         leaves = w.leaves;
       }
@@ -75,8 +75,8 @@ module _ (g : NamedGraph) (ty : Typed (circuit_of g)) where
   graph_wire : (target source : Port) → map.get g.feeders target ≡ Some source → IsWire g source target
   graph_wire target source e =
       let w = ty.wires target source e in
-      let from = body_behind (map.get g.nodes source.node) w.source w.is_source in
-      let to = body_behind (map.get g.nodes target.node) w.target w.is_target in
+      let from = body_behind (map.get g.nodes source.node) w.from w.is_from in
+      let to = body_behind (map.get g.nodes target.node) w.to w.is_to in
       record {
         from = from.body;
         to = to.body;

@@ -24,15 +24,8 @@ mod Regrouping
 mod Splitting
 mod Parts
 mod Alone
-mod Maps
 mod GraphCircuits
 mod GraphBuffers
-mod LoneWire
-mod WireDrains
 pub mod MadeSteps
-pub mod Listed
-mod LoneTagger
-mod TaggerRefuses
-mod LoneInit
 pub mod OneWay
 mod RestFound

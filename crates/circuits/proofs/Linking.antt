@@ -5,13 +5,14 @@ use Rattle.components.specs.declared.kind.Kind.{Kind}
 use Rattle.components.specs.declared.kind.Kind.TheVariants.{Entry, Exit, Buffer}
 use Rattle.components.specs.Name.{Name, Port}
 use Rattle.components.specs.Kind.{Shape}
+use Rattle.components.specs.Orders.{same_bytes, other_bytes}
 use Rattle.circuits.specs.PortTokens.{Token, share, share_from, one}
 use Rattle.circuits.specs.Circuit.{Circuit, kind_of}
 use Rattle.circuits.specs.State.{State, start, initial}
 use Rattle.circuits.specs.Firing.{Label, Label.Feed, Label.Take, Label.Fire, Acts}
 use Rattle.circuits.specs.Run.{Step, Firing, Firings}
 use Rattle.circuits.specs.Plug.{Link, link, redirect, as_buffer}
-use Rattle.circuits.proofs.Names.{name_cases, other_test, same_test}
+use Rattle.circuits.proofs.Names.{name_cases}
 use Rattle.circuits.proofs.Steps.{acts_at, share_none, share_from_none, share_other, share_same, append_none}
 use Rattle.circuits.proofs.Sim.{Inner, Sim, inner_then, inner_one}
 
@@ -26,7 +27,7 @@ apart l c a h e = let k : Some (Entry a) ≡ Some (Exit a) = sym h.entry ∙ ap 
 
 -- a step of another node is the same step
 pub kind_other : (l : Link) (c : Circuit) (n : Name) → n ≢ l.exit → n ≢ l.entry → (link l c).kind_at n ≡ c.kind_at n
-kind_other l c n hx he = rw (other_test n l.entry he, other_test n l.exit hx)
+kind_other l c n hx he = rw (other_bytes n l.entry he, other_bytes n l.exit hx)
 
 redirect_other : (l : Link) (n : Name) (side : List (List Token)) (o : Option Port) → n ≢ l.exit → n ≢ l.entry → share_from n side (redirect l o) ≡ share_from n side o
 redirect_other l n side None hx he = refl
@@ -67,10 +68,10 @@ step_unlinked l c s n lab t hx he st =
 -- the node of the link is a Buffer, and the Entry is gone
 pub kind_exit : (l : Link) (c : Circuit) (a : Shape) → CanLink l c a → (link l c).kind_at l.exit ≡ Some (Buffer a)
 kind_exit l c a h =
-    rw (other_test l.exit l.entry (λ e. apart l c a h (sym e)), same_test l.exit l.exit refl, h.exit)
+    rw (other_bytes l.exit l.entry (λ e. apart l c a h (sym e)), same_bytes l.exit l.exit refl, h.exit)
 
 pub kind_entry : (l : Link) (c : Circuit) → (link l c).kind_at l.entry ≡ None
-kind_entry l c = rw (same_test l.entry l.entry refl)
+kind_entry l c = rw (same_bytes l.entry l.entry refl)
 
 -- what the Buffer gives, the Entry fed
 redirect_link : (l : Link) (side : List (List Token)) (o : Option Port) → ((q : Port) → o ≡ Some q → q.node ≢ l.exit) → share_from l.exit side (redirect l o) ≡ share_from l.entry side o
@@ -192,7 +193,7 @@ initial_as_buffer (Some _) = refl
 initial_linked : (l : Link) (c : Circuit) (n : Name) → n ≢ l.entry → initial ((link l c).kind_at n) ≡ initial (c.kind_at n)
 initial_linked l c n he =
     elim (name_cases n l.exit) [
-      | inl is ↦ rw (other_test n l.entry he, is.test) (initial_as_buffer (c.kind_at n))
+      | inl is ↦ rw (other_bytes n l.entry he, is.test) (initial_as_buffer (c.kind_at n))
       | inr ne ↦ ap initial (kind_other l c n ne.is_not he)
     ]
 

@@ -3,12 +3,13 @@ use Rattle.std.proofs.Common.{◌≡◌, ℕ, zero, suc, inl, inr, refl, sym, ap
 use Rattle.std.proofs.Math.Seq.{drop-append_seam}
 use Rattle.components.specs.declared.kind.Kind.{Kind}
 use Rattle.components.specs.Name.{Name, Port}
+use Rattle.components.specs.Orders.{same_bytes, other_bytes}
 use Rattle.circuits.specs.PortTokens.{Token, at_port, share, share_from}
 use Rattle.circuits.specs.Circuit.{Circuit}
 use Rattle.circuits.specs.State.{Slot, State}
 use Rattle.circuits.specs.Firing.{Label, Acts}
 use Rattle.circuits.specs.Run.{Step, Move, Run}
-use Rattle.circuits.proofs.Names.{name_cases, same_test, other_test}
+use Rattle.circuits.proofs.Names.{name_cases}
 use Rattle.circuits.proofs.Steps.{share_same, share_other}
 
 -- what a node does: its kind, its label, what it takes and gives, and the slots after
@@ -74,11 +75,11 @@ module _ (c : Circuit) (s : State) (d : Deed) (can : Can c s d) where
         is_kind = can.is_kind;
         taken = d.taken;
         given = d.given;
-        acts = subst (λ b. Acts d.kind d.label (s.slots d.node) d.taken d.given (if b then d.new else s.slots d.node)) (sym (same_test d.node d.node refl)) can.acts;
+        acts = subst (λ b. Acts d.kind d.label (s.slots d.node) d.taken d.given (if b then d.new else s.slots d.node)) (sym (same_bytes d.node d.node refl)) can.acts;
         between = left d s;
         takes = takes;
         gives = λ p. refl;
-        others = λ m ne. ap (λ b. if b then d.new else s.slots m) (other_test m d.node ne);
+        others = λ m ne. ap (λ b. if b then d.new else s.slots m) (other_bytes m d.node ne);
       }
 
 -- one after another

@@ -1,23 +1,19 @@
 -- What the author of a rule shows, and that it gives refinement. That the values of operators fit is a law of `op_table`, which a law function calls.
-use Rattle.std.proofs.Common.{ℕ, subst, List, [], ◌∷◌}
+use Rattle.std.proofs.Common.{ℕ, map}
 use Rattle.op_table.specs.Laws.{ValueFits}
 use Rattle.components.specs.Name.{Name}
 use Rattle.circuits.specs.PortTokens.{Token}
 use Rattle.circuits.specs.Circuit.{Circuit, Typed}
 use Rattle.circuits.specs.State.{State, start, IsStateOf}
 use Rattle.circuits.specs.Firing.{Label.Feed, Label.Take, Label.Fire}
-use Rattle.circuits.specs.Run.{Step, Firing, Firings}
+use Rattle.circuits.specs.Run.{Step, move_of}
 use Rattle.circuits.specs.Refines.{SamePorts, Refines}
 use Rattle.circuits.proofs.Sim.{Inner, Sim}
-use Rattle.circuits.proofs.Fitting.{step_fits, start_fits, take_fits}
+use Rattle.circuits.proofs.Fitting.{step_fits, run_fits, start_fits, take_fits}
 use Rattle.circuits.proofs.Refining.{sim_refines}
 
-firings_fit : ValueFits → (c : Circuit) → Typed c → (s : State) (fs : List Firing) (t : State) → Firings c s fs t → IsStateOf c s → IsStateOf c t
-firings_fit values c ty s [] t e h = subst (IsStateOf c) e h
-firings_fit values c ty s (f ∷ fs) t k h = firings_fit values c ty k.0 fs t k.2 (step_fits values c ty s f.node (Fire f.choice) k.0 k.1 h)
-
 pub inner_fits : ValueFits → (c : Circuit) → Typed c → (s t : State) → Inner c s t → IsStateOf c s → IsStateOf c t
-inner_fits values c ty s t k h = firings_fit values c ty s k.firings t k.leads h
+inner_fits values c ty s t k h = run_fits values c ty s (map move_of k.firings) t k.leads h
 
 -- what the author of a rule shows: each step of the new circuit is matched in the old one, from states whose tokens fit
 pub record Matches (h g : Circuit) : Type 1 where

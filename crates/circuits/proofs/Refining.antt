@@ -60,11 +60,11 @@ no_out a k b i e f = let g : None ≡ Some b = subst (λ x. port_get (outs x) i 
 pub exit_feeds_none : (c : Circuit) → Typed c → (n : Name) (a : Shape) → c.kind_at n ≡ Some (Exit a) → (p q : Port) → c.feeder p ≡ Some q → q.node ≢ n
 exit_feeds_none c ty n a e p q f is =
     let w = ty.wires p q f in
-    no_out a w.source w.shape q.port (same_Some w.source (Exit a) (sym w.is_source ∙ ap c.kind_at is ∙ e)) w.leaves
+    no_out a w.from w.shape q.port (same_Some w.from (Exit a) (sym w.is_from ∙ ap c.kind_at is ∙ e)) w.leaves
 
 none_fed_at : (c d : Circuit) → Typed d → (n : Name) → d.kind_at n ≡ None → (p q : Port) (o : Option Port) → c.feeder p ≡ o → ((r : Port) → c.feeder p ≡ Some r → r.node ≢ n) → or_else o (d.feeder p) ≡ Some q → q.node ≢ n
 none_fed_at c d td n e p q None f h g is =
-    let w = td.wires p q g in let k : None ≡ Some w.source = sym e ∙ ap d.kind_at (sym is) ∙ w.is_source in cc
+    let w = td.wires p q g in let k : None ≡ Some w.from = sym e ∙ ap d.kind_at (sym is) ∙ w.is_from in cc
 none_fed_at c d td n e p q (Some r) f h g is = h r f (ap (λ (x : Port). x.node) (same_Some r q g) ∙ is)
 
 none_fed : (c d : Circuit) → Typed d → (n : Name) → d.kind_at n ≡ None → ((p r : Port) → c.feeder p ≡ Some r → r.node ≢ n) → (p q : Port) → (beside c d).feeder p ≡ Some q → q.node ≢ n
@@ -73,7 +73,7 @@ none_fed c d td n e h p q g = none_fed_at c d td n e p q (c.feeder p) refl (h p)
 none_fed_right_at : (c d : Circuit) → Typed c → (n : Name) → c.kind_at n ≡ None → (p q : Port) (o : Option Port) → c.feeder p ≡ o → ((r : Port) → d.feeder p ≡ Some r → r.node ≢ n) → or_else o (d.feeder p) ≡ Some q → q.node ≢ n
 none_fed_right_at c d tc n e p q None f h g is = h q g is
 none_fed_right_at c d tc n e p q (Some r) f h g is =
-    let w = tc.wires p r f in let k : None ≡ Some w.source = sym e ∙ ap c.kind_at (sym (ap (λ (x : Port). x.node) (same_Some r q g) ∙ is)) ∙ w.is_source in cc
+    let w = tc.wires p r f in let k : None ≡ Some w.from = sym e ∙ ap c.kind_at (sym (ap (λ (x : Port). x.node) (same_Some r q g) ∙ is)) ∙ w.is_from in cc
 
 -- what joins c and g can be linked where they stand side by side
 pub joined_out : (c g : Circuit) (l : Link) → Apart c g → Typed c → Typed g → (j : Joins l c g) → CanLink l (beside c g) j.shape

@@ -4,9 +4,10 @@ use Rattle.std.specs.List.{AllByRecursion}
 use Rattle.components.specs.declared.kind.Kind.{Kind}
 use Rattle.components.specs.declared.kind.Kind.TheVariants.{Exit}
 use Rattle.components.specs.Name.{Name, Port}
+use Rattle.components.specs.Orders.{same_bytes, other_bytes}
 use Rattle.circuits.specs.Circuit.{Circuit, Typed}
 use Rattle.circuits.specs.Plug.{Link, link, link_all, redirect, as_buffer, beside, or_else}
-use Rattle.circuits.proofs.Names.{name_cases, other_test, same_test}
+use Rattle.circuits.proofs.Names.{name_cases}
 use Rattle.circuits.proofs.Beside.{none_some}
 use Rattle.circuits.proofs.Renaming.{circuit_same}
 
@@ -21,10 +22,10 @@ abbrev linked_kind : Link → Name → Option Kind → Option Kind
 linked_kind l n k = if bytes_eq n l.entry then None else (if bytes_eq n l.exit then as_buffer k else k)
 
 kind_away : (l : Link) (n : Name) (k : Option Kind) → n ≢ l.entry → n ≢ l.exit → linked_kind l n k ≡ k
-kind_away l n k ne nx = rw (other_test n l.entry ne, other_test n l.exit nx)
+kind_away l n k ne nx = rw (other_bytes n l.entry ne, other_bytes n l.exit nx)
 
 redirect_away : (l : Link) (q : Port) → q.node ≢ l.entry → redirect l (Some q) ≡ Some q
-redirect_away l q ne = ap (λ b. Some (if b then record { node = l.exit; port = q.port } else q)) (other_test q.node l.entry ne)
+redirect_away l q ne = ap (λ b. Some (if b then record { node = l.exit; port = q.port } else q)) (other_bytes q.node l.entry ne)
 
 -- the names of the link stand not in c
 pub record Away (c : Circuit) (l : Link) : Type 0 where
@@ -45,7 +46,7 @@ module _ (c d : Circuit) (l : Link) (aw : Away c l) (ty : Typed c) where
   right_feeder p None e = refl
   right_feeder p (Some q) e =
       let w = ty.wires p q e in
-      sym (redirect_away l q (λ is. none_some (c.kind_at q.node) w.source (ap c.kind_at is ∙ aw.entry) w.is_source))
+      sym (redirect_away l q (λ is. none_some (c.kind_at q.node) w.from (ap c.kind_at is ∙ aw.entry) w.is_from))
 
   link_right : beside c (link l d) ≡ link l (beside c d)
   link_right = circuit_same _ _ (λ n. right_kind n (c.kind_at n) refl) (λ p. right_feeder p (c.feeder p) refl)
@@ -71,7 +72,7 @@ module _ (c d : Circuit) (l : Link) (aw : Away d l) (ty : Typed d) where
   left_feeder p None None e = refl
   left_feeder p None (Some q) e =
       let w = ty.wires p q e in
-      sym (redirect_away l q (λ is. none_some (d.kind_at q.node) w.source (ap d.kind_at is ∙ aw.entry) w.is_source))
+      sym (redirect_away l q (λ is. none_some (d.kind_at q.node) w.from (ap d.kind_at is ∙ aw.entry) w.is_from))
   left_feeder p (Some q) o' e = refl
 
   link_left : beside (link l c) d ≡ link l (beside c d)
@@ -108,7 +109,7 @@ module _ (l m : Link) (h : Distinct l m) (c : Circuit) where
       mine ne nx = ap (linked_kind l n) (kind_away m n k ne nx) ∙ sym (kind_away m n (linked_kind l n k) ne nx)
 
   redirect_hit : (x : Link) (q : Port) → q.node ≡ x.entry → redirect x (Some q) ≡ Some (record { node = x.exit; port = q.port })
-  redirect_hit x q is = ap (λ b. Some (if b then record { node = x.exit; port = q.port } else q)) (same_test q.node x.entry is)
+  redirect_hit x q is = ap (λ b. Some (if b then record { node = x.exit; port = q.port } else q)) (same_bytes q.node x.entry is)
 
   swap_feeder : (o : Option Port) → redirect l (redirect m o) ≡ redirect m (redirect l o)
   swap_feeder None = refl

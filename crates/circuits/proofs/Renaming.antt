@@ -2,13 +2,14 @@
 use Rattle.std.proofs.Common.{◌≡◌, ℕ, ◌+◌, ◌≤◌, inl, inr, refl, sym, ap, subst, ◌∙◌, bytes_eq, if◌then◌else◌, List, [], ◌∷◌, ◌++◌, length, Option, Some, None}
 use Rattle.components.specs.declared.kind.Kind.{Kind}
 use Rattle.components.specs.Name.{Name, Port}
+use Rattle.components.specs.Orders.{same_bytes, other_bytes}
 use Rattle.circuits.specs.PortTokens.{Token, share, share_from, at_port}
 use Rattle.circuits.specs.Circuit.{Circuit, kind_of, Typed}
 use Rattle.circuits.specs.State.{State, start, initial}
 use Rattle.circuits.specs.Firing.{Label, Label.Feed, Label.Take, Label.Fire, Acts}
 use Rattle.circuits.specs.Run.{Step, Move, Run, trace, shown, Shows}
 use Rattle.circuits.specs.Plug.{Link, link, link_all, redirect, plug, beside, or_else, as_buffer}
-use Rattle.circuits.proofs.Names.{name_cases, other_test, same_test}
+use Rattle.circuits.proofs.Names.{name_cases}
 use Rattle.circuits.proofs.Beside.{unfed}
 
 -- names exchanged in pairs
@@ -52,8 +53,8 @@ to_inj x a b e = sym (x.back a) ∙ ap x.to e ∙ x.back b
 test_both : (x : Swap) (a b : Name) → bytes_eq (x.to a) (x.to b) ≡ bytes_eq a b
 test_both x a b =
     elim (name_cases a b) [
-      | inl is ↦ same_test (x.to a) (x.to b) (ap x.to is.is) ∙ sym is.test
-      | inr ne ↦ other_test (x.to a) (x.to b) (λ e. ne.is_not (to_inj x a b e)) ∙ sym ne.test
+      | inl is ↦ same_bytes (x.to a) (x.to b) (ap x.to is.is) ∙ sym is.test
+      | inr ne ↦ other_bytes (x.to a) (x.to b) (λ e. ne.is_not (to_inj x a b e)) ∙ sym ne.test
     ]
 
 pub test_to : (x : Swap) (a b : Name) → bytes_eq a (x.to b) ≡ bytes_eq (x.to a) b
@@ -176,7 +177,7 @@ feeder_fixed_at x c ty fixed p None e = unfed c ty (port_to x p) (kind_fixed x c
 
 source_fixed : (x : Swap) (c : Circuit) → Typed c → ((n : Name) (k : Kind) → c.kind_at n ≡ Some k → x.to n ≡ n) → (p : Port) (o : Option Port) → c.feeder p ≡ o → fed_to x o ≡ o
 source_fixed x c ty fixed p None f = refl
-source_fixed x c ty fixed p (Some q) f = let w = ty.wires p q f in λ i. Some (record { node = fixed q.node w.source w.is_source i; port = q.port })
+source_fixed x c ty fixed p (Some q) f = let w = ty.wires p q f in λ i. Some (record { node = fixed q.node w.from w.is_from i; port = q.port })
 
 pub renamed_fixed : (x : Swap) (c : Circuit) → Typed c → ((n : Name) (k : Kind) → c.kind_at n ≡ Some k → x.to n ≡ n) → renamed x c ≡ c
 renamed_fixed x c ty fixed =

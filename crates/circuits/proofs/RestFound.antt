@@ -10,6 +10,8 @@ use Rattle.components.specs.declared.kind.Kind.TheVariants.{Buffer, Fork, Init}
 use Rattle.components.specs.Name.{Name, Port, name_cmp}
 use Rattle.components.specs.Node.{Body}
 use Rattle.components.specs.NamedGraph.{NamedGraph}
+use Rattle.components.specs.Lookups.{other_test}
+use Rattle.components.specs.Orders.{name_total, name_same}
 use Rattle.circuits.specs.PortTokens.{Token, one, at_port, share, share_from}
 use Rattle.circuits.specs.Circuit.{Circuit, circuit_of, kind_of, kind_of_body}
 use Rattle.circuits.specs.State.{Slot, State, start, initial}
@@ -20,7 +22,6 @@ use Rattle.circuits.specs.Root.{PassesThrough}
 use Rattle.circuits.specs.Drains.{Led, IsRest}
 use Rattle.circuits.proofs.Names.{name_cases}
 use Rattle.circuits.proofs.Steps.{acts_at, share_same, share_other}
-use Rattle.circuits.proofs.Maps.{name_test}
 use Rattle.circuits.proofs.MadeSteps.{Deed, after, step_made}
 use Rattle.circuits.proofs.Resting.{Passed, passes_one, given_for}
 use Rattle.circuits.proofs.Draining.{Comes, start_comes, led_comes}
@@ -362,7 +363,7 @@ found_among [] m body e = let z : None ≡ Some body = e in cc
 found_among (x ∷ es) m body e =
     elim (name_cases m x.0) [
       | inl is ↦ inl is.is
-      | inr ne ↦ inr (found_among es m body (sym (ap (λ b. cond b (Some x.1) (find name_cmp m es)) (name_test m x.0 ∙ ne.test)) ∙ e))
+      | inr ne ↦ inr (found_among es m body (sym (ap (λ b. cond b (Some x.1) (find name_cmp m es)) (other_test name_total name_same m x.0 ne.is_not)) ∙ e))
     ]
 
 node_among : (g : NamedGraph) (m : Name) (k : Kind) (o : Option Body) → finite.get g.nodes m ≡ o → kind_of_body o ≡ Some k → Among m (map (λ (e : Name × Body). e.0) (finite.entries g.nodes))

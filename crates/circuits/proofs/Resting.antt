@@ -5,6 +5,7 @@ use Rattle.std.specs.List.{AllByRecursion}
 use Rattle.components.specs.declared.kind.Kind.{Kind}
 use Rattle.components.specs.declared.kind.Kind.TheVariants.{Buffer, Fork}
 use Rattle.components.specs.Name.{Name, Port}
+use Rattle.components.specs.Orders.{same_bytes, other_bytes}
 use Rattle.circuits.specs.PortTokens.{Token, one, share, share_from}
 use Rattle.circuits.specs.Circuit.{Circuit}
 use Rattle.circuits.specs.State.{Slot, State, start}
@@ -13,7 +14,7 @@ use Rattle.circuits.specs.Run.{Step, Firing, Firings}
 use Rattle.circuits.specs.Buffers.{first_port}
 use Rattle.circuits.specs.Root.{PassesThrough}
 use Rattle.circuits.specs.Drains.{IsInit, Led, IsRest}
-use Rattle.circuits.proofs.Names.{name_cases, same_test, other_test}
+use Rattle.circuits.proofs.Names.{name_cases}
 use Rattle.circuits.proofs.Steps.{acts_at, share_other, share_same}
 
 -- two states are one where they hold the same
@@ -132,7 +133,7 @@ module _ (c : Circuit) (s u w : State) (m n : Name) (j k : Label) (a : Step c s 
 
   at_m : (p : Port) → p.node ≢ n → n_between p ≡ a.between p ++ m_gives p
   unfolding n_between m_gives
-  at_m p no_n = ap (λ z. if z then b.between p ++ m_gives p else u.wires p) (other_test p.node n no_n) ∙ a.gives p
+  at_m p no_n = ap (λ z. if z then b.between p ++ m_gives p else u.wires p) (other_bytes p.node n no_n) ∙ a.gives p
 
   both_gives : (p : Port) → n_between p ++ n_gives p ≡ m_between p ++ m_gives p
   unfolding n_between m_between m_gives n_gives
@@ -162,11 +163,11 @@ module _ (c : Circuit) (s u w : State) (m n : Name) (j k : Label) (a : Step c s 
         taken = b.taken;
         given = b.given;
         acts = subst (λ z. Acts b.kind k z b.taken b.given (if bytes_eq n n then w.slots n else u.slots n)) (sym (a.others n (λ e. ne (sym e))))
-            (subst (λ z. Acts b.kind k (s.slots n) b.taken b.given (if z then w.slots n else u.slots n)) (sym (same_test n n refl)) b.acts);
+            (subst (λ z. Acts b.kind k (s.slots n) b.taken b.given (if z then w.slots n else u.slots n)) (sym (same_bytes n n refl)) b.acts);
         between = n_between;
         takes = n_takes;
         gives = λ p. refl;
-        others = λ q no_n. ap (λ z. if z then w.slots n else u.slots q) (other_test q n no_n);
+        others = λ q no_n. ap (λ z. if z then w.slots n else u.slots q) (other_bytes q n no_n);
       }
 
   m_second : Step c w m j both
@@ -178,7 +179,7 @@ module _ (c : Circuit) (s u w : State) (m n : Name) (j k : Label) (a : Step c s 
         taken = a.taken;
         given = a.given;
         acts = subst (λ z. Acts a.kind j z a.taken a.given (if bytes_eq m n then w.slots n else u.slots m)) (sym (b.others m ne))
-            (subst (λ z. Acts a.kind j (s.slots m) a.taken a.given (if z then w.slots n else u.slots m)) (sym (other_test m n ne)) a.acts);
+            (subst (λ z. Acts a.kind j (s.slots m) a.taken a.given (if z then w.slots n else u.slots m)) (sym (other_bytes m n ne)) a.acts);
         between = m_between;
         takes = m_takes;
         gives = both_gives;

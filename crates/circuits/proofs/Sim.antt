@@ -1,5 +1,6 @@
 -- A simulation gives trace inclusion.
-use Rattle.std.proofs.Common.{◌≡◌, ℕ, refl, sym, ap, subst, ◌∙◌, List, [], ◌∷◌, ◌++◌, Some}
+use Rattle.std.proofs.Common.{◌≡◌, ℕ, refl, sym, ap, subst, ◌∙◌, List, [], ◌∷◌, ◌++◌, Some, map}
+use Rattle.std.proofs.lemmas.List.{map-append}
 use Rattle.port_types.specs.Token.{Fits}
 use Rattle.components.specs.declared.kind.Kind.TheVariants.{Exit}
 use Rattle.components.specs.Name.{Name}
@@ -8,21 +9,26 @@ use Rattle.circuits.specs.PortTokens.{Token}
 use Rattle.circuits.specs.Circuit.{Circuit}
 use Rattle.circuits.specs.State.{State, start}
 use Rattle.circuits.specs.Firing.{Label, Label.Feed, Label.Take, Label.Fire}
-use Rattle.circuits.specs.Run.{Step, Move, Run, trace, shown, Shows, Firing, Firings}
+use Rattle.circuits.specs.Run.{Step, Move, Run, trace, shown, Shows, Firing, move_of, Firings}
 
+run_append : (c : Circuit) (s : State) (ms : List Move) (m : State) (ns : List Move) (t : State) → Run c s ms m → Run c m ns t → Run c s (ms ++ ns) t
+run_append c s [] m ns t e k = subst (λ x. Run c x ns t) (sym e) k
+run_append c s (f ∷ fs) m ns t h k = (h.0, h.1, run_append c h.0 fs m ns t h.2 k)
+
+-- firings that lead from s to t
 pub record Inner (c : Circuit) (s t : State) : Type 0 where
   pub firings : List Firing
   pub leads : Firings c s firings t
-
-pub firings_append : (c : Circuit) (s : State) (fs : List Firing) (m : State) (gs : List Firing) (t : State) → Firings c s fs m → Firings c m gs t → Firings c s (fs ++ gs) t
-firings_append c s [] m gs t e k = subst (λ x. Firings c x gs t) (sym e) k
-firings_append c s (f ∷ fs) m gs t h k = (h.0, h.1, firings_append c h.0 fs m gs t h.2 k)
 
 pub inner_none : (c : Circuit) (s : State) → Inner c s s
 inner_none c s = record { firings = []; leads = refl }
 
 pub inner_then : (c : Circuit) (s m t : State) → Inner c s m → Inner c m t → Inner c s t
-inner_then c s m t h k = record { firings = h.firings ++ k.firings; leads = firings_append c s h.firings m k.firings t h.leads k.leads }
+inner_then c s m t h k =
+    record {
+      firings = h.firings ++ k.firings;
+      leads = subst (λ ms. Run c s ms t) (sym (map-append move_of h.firings k.firings)) (run_append c s (map move_of h.firings) m (map move_of k.firings) t h.leads k.leads);
+    }
 
 pub inner_one : (c : Circuit) (s t : State) (n : Name) (k : ℕ) → Step c s n (Fire k) t → Inner c s t
 inner_one c s t n k h = record { firings = record { node = n; choice = k } ∷ []; leads = (t, h, refl) }
@@ -32,10 +38,6 @@ pub record Goes (c : Circuit) (s : State) (tr : List Move) (t : State) : Type 0 
   pub moves : List Move
   pub run : Run c s moves t
   pub shows : trace moves ≡ tr
-
-run_append : (c : Circuit) (s : State) (ms : List Move) (m : State) (ns : List Move) (t : State) → Run c s ms m → Run c m ns t → Run c s (ms ++ ns) t
-run_append c s [] m ns t e k = subst (λ x. Run c x ns t) (sym e) k
-run_append c s (f ∷ fs) m ns t h k = (h.0, h.1, run_append c h.0 fs m ns t h.2 k)
 
 shown_append : (n : Name) (l : Label) (ms ns : List Move) → shown n l (ms ++ ns) ≡ shown n l ms ++ ns
 shown_append n (Feed v) ms ns = refl
@@ -57,12 +59,13 @@ goes_then c s a m b t h k =
 pub goes_one : (c : Circuit) (s : State) (n : Name) (l : Label) (t : State) → Step c s n l t → Goes c s (shown n l []) t
 goes_one c s n l t h = record { moves = record { node = n; label = l } ∷ []; run = (t, h, refl); shows = refl }
 
-goes_firings : (c : Circuit) (s : State) (fs : List Firing) (t : State) → Firings c s fs t → Goes c s [] t
-goes_firings c s [] t e = record { moves = []; run = e; shows = refl }
-goes_firings c s (f ∷ fs) t h = goes_then c s [] h.0 [] t (goes_one c s f.node (Fire f.choice) h.0 h.1) (goes_firings c h.0 fs t h.2)
+-- nothing is seen of firings
+trace_firings : (fs : List Firing) → trace (map move_of fs) ≡ []
+trace_firings [] = refl
+trace_firings (f ∷ fs) = trace_firings fs
 
 pub goes_inner : (c : Circuit) (s t : State) → Inner c s t → Goes c s [] t
-goes_inner c s t h = goes_firings c s h.firings t h.leads
+goes_inner c s t h = record { moves = map move_of h.firings; run = h.leads; shows = trace_firings h.firings }
 
 -- each step of the new circuit h is matched in the old one g
 pub record Sim (h g : Circuit) : Type 1 where

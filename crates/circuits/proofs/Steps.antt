@@ -3,12 +3,12 @@ use Rattle.std.proofs.Common.{◌≡◌, ◌≢◌, refl, sym, ap, subst, ◌∙
 use Rattle.std.proofs.lemmas.Option.{same_Some}
 use Rattle.components.specs.declared.kind.Kind.{Kind}
 use Rattle.components.specs.Name.{Name, Port}
+use Rattle.components.specs.Orders.{same_bytes, other_bytes}
 use Rattle.circuits.specs.PortTokens.{Token, share, share_from, at_port}
 use Rattle.circuits.specs.Circuit.{Circuit}
 use Rattle.circuits.specs.State.{State}
 use Rattle.circuits.specs.Firing.{Label, Acts}
 use Rattle.circuits.specs.Run.{Step}
-use Rattle.circuits.proofs.Names.{other_test, same_test}
 
 -- a node acts as its kind does
 pub acts_at : (c : Circuit) (s : State) (n : Name) (l : Label) (t : State) (st : Step c s n l t) (k : Kind) → c.kind_at n ≡ Some k → Acts k l (s.slots n) st.taken st.given (t.slots n)
@@ -23,10 +23,10 @@ share_from_none n None = refl
 share_from_none n (Some p) = share_none n p
 
 pub share_other : (n : Name) (side : List (List Token)) (p : Port) → p.node ≢ n → share n side p ≡ []
-share_other n side p h = ap (λ b. if b then at_port side p.port else []) (other_test p.node n h)
+share_other n side p h = ap (λ b. if b then at_port side p.port else []) (other_bytes p.node n h)
 
 pub share_same : (n : Name) (side : List (List Token)) (p : Port) → p.node ≡ n → share n side p ≡ at_port side p.port
-share_same n side p h = ap (λ b. if b then at_port side p.port else []) (same_test p.node n h)
+share_same n side p h = ap (λ b. if b then at_port side p.port else []) (same_bytes p.node n h)
 
 pub append_none : (xs ys : List Token) → ys ≡ [] → xs ≡ xs ++ ys
 append_none xs ys e = sym (append-nil xs) ∙ ap (λ z. xs ++ z) (sym e)

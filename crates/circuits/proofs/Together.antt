@@ -5,9 +5,10 @@ use Rattle.components.specs.declared.kind.Kind.{Kind}
 use Rattle.components.specs.declared.kind.Kind.TheVariants.{Entry, Exit, Buffer}
 use Rattle.components.specs.Name.{Name, Port, port_get}
 use Rattle.components.specs.Kind.{Shape, ins, outs, KindOk}
+use Rattle.components.specs.Orders.{same_bytes, other_bytes}
 use Rattle.circuits.specs.Circuit.{Circuit, Typed, Wire}
 use Rattle.circuits.specs.Plug.{Link, link, redirect, beside, or_else, Apart}
-use Rattle.circuits.proofs.Names.{name_cases, other_test, same_test}
+use Rattle.circuits.proofs.Names.{name_cases}
 use Rattle.circuits.proofs.Linking.{CanLink, kind_other, kind_exit, kind_entry}
 use Rattle.circuits.proofs.Beside.{apart_none, apart_sym, kind_left, kind_right, unfed, none_some}
 
@@ -17,18 +18,18 @@ or_some None o' x e = inr (refl, e)
 or_some (Some y) o' x e = inl e
 
 module _ (c d : Circuit) (h : Apart c d) (tc : Typed c) (td : Typed d) where
-  wire_left : (p q : Port) → c.feeder p ≡ Some q → Wire (beside c d) p q
+  wire_left : (p q : Port) → c.feeder p ≡ Some q → Wire (beside c d) q p
   wire_left p q f =
       let w = tc.wires p q f in
-      record { target = w.target; source = w.source; shape = w.shape; is_target = kind_left c d p.node w.target w.is_target; is_source = kind_left c d q.node w.source w.is_source; enters = w.enters; leaves = w.leaves }
+      record { to = w.to; from = w.from; shape = w.shape; is_to = kind_left c d p.node w.to w.is_to; is_from = kind_left c d q.node w.from w.is_from; enters = w.enters; leaves = w.leaves }
 
   pub kind_of_right : (n : Name) (k : Kind) → d.kind_at n ≡ Some k → (beside c d).kind_at n ≡ Some k
   kind_of_right n k e = kind_right c d n (apart_none d c (apart_sym c d h) n k e) ∙ e
 
-  wire_right : (p q : Port) → d.feeder p ≡ Some q → Wire (beside c d) p q
+  wire_right : (p q : Port) → d.feeder p ≡ Some q → Wire (beside c d) q p
   wire_right p q f =
       let w = td.wires p q f in
-      record { target = w.target; source = w.source; shape = w.shape; is_target = kind_of_right p.node w.target w.is_target; is_source = kind_of_right q.node w.source w.is_source; enters = w.enters; leaves = w.leaves }
+      record { to = w.to; from = w.from; shape = w.shape; is_to = kind_of_right p.node w.to w.is_to; is_from = kind_of_right q.node w.from w.is_from; enters = w.enters; leaves = w.leaves }
 
   pub feeder_left : (p q : Port) → c.feeder p ≡ Some q → (beside c d).feeder p ≡ Some q
   feeder_left p q f = ap (λ z. or_else z (d.feeder p)) f
@@ -36,12 +37,12 @@ module _ (c d : Circuit) (h : Apart c d) (tc : Typed c) (td : Typed d) where
   pub feeder_right : (p q : Port) → d.feeder p ≡ Some q → (beside c d).feeder p ≡ Some q
   feeder_right p q f =
       let w = td.wires p q f in
-      ap (λ z. or_else z (d.feeder p)) (unfed c tc p (apart_none d c (apart_sym c d h) p.node w.target w.is_target)) ∙ f
+      ap (λ z. or_else z (d.feeder p)) (unfed c tc p (apart_none d c (apart_sym c d h) p.node w.to w.is_to)) ∙ f
 
   once_beside : (p r q : Port) → (c.feeder p ≡ Some q) ⊎ ((c.feeder p ≡ None) × (d.feeder p ≡ Some q)) → (c.feeder r ≡ Some q) ⊎ ((c.feeder r ≡ None) × (d.feeder r ≡ Some q)) → p ≡ r
   once_beside p r q (inl e) (inl f) = tc.once p r q e f
-  once_beside p r q (inl e) (inr f) = let w = tc.wires p q e in let v = td.wires r q f.1 in absurd (h q.node w.source v.source w.is_source v.is_source)
-  once_beside p r q (inr e) (inl f) = let w = td.wires p q e.1 in let v = tc.wires r q f in absurd (h q.node v.source w.source v.is_source w.is_source)
+  once_beside p r q (inl e) (inr f) = let w = tc.wires p q e in let v = td.wires r q f.1 in absurd (h q.node w.from v.from w.is_from v.is_from)
+  once_beside p r q (inr e) (inl f) = let w = td.wires p q e.1 in let v = tc.wires r q f in absurd (h q.node v.from w.from v.is_from w.is_from)
   once_beside p r q (inr e) (inr f) = td.once p r q e.1 f.1
 
   pub beside_typed : Typed (beside c d)
@@ -105,45 +106,45 @@ module _ (l : Link) (c : Circuit) (a : Shape) (can : CanLink l c a) where
   fed_no_entry : Typed c → (p q : Port) → c.feeder p ≡ Some q → p.node ≢ l.entry
   fed_no_entry ty p q f is =
       let w = ty.wires p q f in
-      let same : w.target ≡ Entry a = same_Some w.target (Entry a) (sym w.is_target ∙ ap c.kind_at is ∙ can.entry) in
+      let same : w.to ≡ Entry a = same_Some w.to (Entry a) (sym w.is_to ∙ ap c.kind_at is ∙ can.entry) in
       let z : None ≡ Some w.shape = ap (λ k. port_get (ins k) p.port) (sym same) ∙ w.enters in
       cc
 
-  wire_linked : Typed c → (p q : Port) → (link l c).feeder p ≡ Some q → Wire (link l c) p q
+  wire_linked : Typed c → (p q : Port) → (link l c).feeder p ≡ Some q → Wire (link l c) q p
   wire_linked ty p q e =
       let (r, f, which) = redirect_some l (c.feeder p) q e in
       let w = ty.wires p r f in
-      let (m, em, im) = target_in p.node w.target (fed_no_entry ty p r f) w.is_target in
+      let (m, em, im) = target_in p.node w.to (fed_no_entry ty p r f) w.is_to in
       elim which [
         | inl here ↦
-            let source : w.source ≡ Entry a = same_Some w.source (Entry a) (sym w.is_source ∙ ap c.kind_at here.0 ∙ can.entry) in
+            let source : w.from ≡ Entry a = same_Some w.from (Entry a) (sym w.is_from ∙ ap c.kind_at here.0 ∙ can.entry) in
             record {
-              target = m;
-              source = Buffer a;
+              to = m;
+              from = Buffer a;
               shape = w.shape;
-              is_target = em;
-              is_source = ap (λ (z : Port). (link l c).kind_at z.node) (sym here.1) ∙ kind_exit l c a can;
+              is_to = em;
+              is_from = ap (λ (z : Port). (link l c).kind_at z.node) (sym here.1) ∙ kind_exit l c a can;
               enters = ap (λ z. port_get z p.port) im ∙ w.enters;
               leaves = ap (λ (z : Port). port_get (a ∷ []) z.port) (sym here.1) ∙ ap (λ k. port_get (outs k) r.port) (sym source) ∙ w.leaves;
             }
         | inr there ↦
             let nx : r.node ≢ l.exit = can.nothing p r f in
             record {
-              target = m;
-              source = w.source;
+              to = m;
+              from = w.from;
               shape = w.shape;
-              is_target = em;
-              is_source = ap (λ (z : Port). (link l c).kind_at z.node) (sym there.1) ∙ kind_other l c r.node nx there.0 ∙ w.is_source;
+              is_to = em;
+              is_from = ap (λ (z : Port). (link l c).kind_at z.node) (sym there.1) ∙ kind_other l c r.node nx there.0 ∙ w.is_from;
               enters = ap (λ z. port_get z p.port) im ∙ w.enters;
-              leaves = ap (λ (z : Port). port_get (outs w.source) z.port) (sym there.1) ∙ w.leaves;
+              leaves = ap (λ (z : Port). port_get (outs w.from) z.port) (sym there.1) ∙ w.leaves;
             }
       ]
 
   redirect_entry : (i : ℕ) → redirect l (Some (record { node = l.entry; port = i })) ≡ Some (record { node = l.exit; port = i })
-  redirect_entry i = ap (λ b. Some (if b then record { node = l.exit; port = i } else record { node = l.entry; port = i })) (same_test l.entry l.entry refl)
+  redirect_entry i = ap (λ b. Some (if b then record { node = l.exit; port = i } else record { node = l.entry; port = i })) (same_bytes l.entry l.entry refl)
 
   redirect_away : (q : Port) → q.node ≢ l.entry → redirect l (Some q) ≡ Some q
-  redirect_away q ne = ap (λ b. Some (if b then record { node = l.exit; port = q.port } else q)) (other_test q.node l.entry ne)
+  redirect_away q ne = ap (λ b. Some (if b then record { node = l.exit; port = q.port } else q)) (other_bytes q.node l.entry ne)
 
   outputs_at : Typed c → (q : Port) (k : Kind) (b : Shape) → Was l c a q.node k → port_get (outs k) q.port ≡ Some b → (p : Port) × ((link l c).feeder p ≡ Some q)
   outputs_at ty q k b (was_exit is ek) f =

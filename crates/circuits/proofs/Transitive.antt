@@ -7,11 +7,12 @@ use Rattle.std.proofs.lemmas.Option.{same_Some}
 use Rattle.components.specs.declared.kind.Kind.{Kind}
 use Rattle.components.specs.declared.kind.Kind.TheVariants.{Entry, Exit}
 use Rattle.components.specs.Name.{Name, Port}
+use Rattle.components.specs.Orders.{same_bytes, other_bytes}
 use Rattle.circuits.specs.Circuit.{Circuit, Typed}
 use Rattle.circuits.specs.Run.{Move, Shows}
 use Rattle.circuits.specs.Plug.{Link, plug, Apart, Joins, UsesNoneTwice, CanPlug}
 use Rattle.circuits.specs.Refines.{SamePorts, Refines}
-use Rattle.circuits.proofs.Names.{name_cases, other_test, same_test}
+use Rattle.circuits.proofs.Names.{name_cases}
 use Rattle.circuits.proofs.Renaming.{Swap, port_to, fed_to, renamed, moves_to, link_to, links_to, shows_to, plug_to, renamed_back, moves_back, links_back, renamed_fixed, to_inj}
 
 pub port_back : (x : Swap) (p : Port) → port_to x (port_to x p) ≡ p
@@ -32,7 +33,7 @@ typed_to x c ty =
       kinds = λ n k e. ty.kinds (x.to n) k e;
       wires = λ p q e.
           let w = ty.wires (port_to x p) (port_to x q) (fed_source x c p q e) in
-          record { target = w.target; source = w.source; shape = w.shape; is_target = w.is_target; is_source = w.is_source; enters = w.enters; leaves = w.leaves };
+          record { to = w.to; from = w.from; shape = w.shape; is_to = w.is_to; is_from = w.is_from; enters = w.enters; leaves = w.leaves };
       inputs = λ p k a e f. let (q, g) = ty.inputs (port_to x p) k a e f in (port_to x q, ap (fed_to x) g);
       outputs = λ q k a e f.
           let (p, g) = ty.outputs (port_to x q) k a e f in
@@ -125,7 +126,7 @@ module _ (c : Circuit) (size : ℕ) (short : (n : Name) (k : Kind) → c.kind_at
       away_of_none (zeros ++ n) (long_none (zeros ++ n) (omega (arith, zeros_long n)))
       ∙ (λ i. back_to (c.kind_at (zeros_drop n i)) (bytes_eq (zeros ++ zeros_drop n i) (zeros ++ n)) (zeros ++ n))
       ∙ ap (λ z. back_to z (bytes_eq (zeros ++ n) (zeros ++ n)) (zeros ++ n)) e
-      ∙ ap (λ z. back_to (Some k) z (zeros ++ n)) (same_test (zeros ++ n) (zeros ++ n) refl)
+      ∙ ap (λ z. back_to (Some k) z (zeros ++ n)) (same_bytes (zeros ++ n) (zeros ++ n) refl)
       ∙ zeros_drop n
 
   away_twice_none : (n : Name) → c.kind_at n ≡ None → (o : Option Kind) → c.kind_at (drop size n) ≡ o → away (away n) ≡ n
@@ -168,7 +169,7 @@ module _ (c : Circuit) (size : ℕ) (short : (n : Name) (k : Kind) → c.kind_at
   unfolding back_to
   away_short_at n h e o =
       away_of_none n e
-      ∙ ap (λ z. back_to (c.kind_at (drop size n)) z n) (other_test (zeros ++ drop size n) n (λ x. let long : length (zeros ++ drop size n) ≡ length n = ap length x in absurd (omega (arith, long, zeros_long (drop size n), h))))
+      ∙ ap (λ z. back_to (c.kind_at (drop size n)) z n) (other_bytes (zeros ++ drop size n) n (λ x. let long : length (zeros ++ drop size n) ≡ length n = ap length x in absurd (omega (arith, long, zeros_long (drop size n), h))))
       ∙ stays (c.kind_at (drop size n))
     where
       stays : (o' : Option Kind) → back_to o' false n ≡ n

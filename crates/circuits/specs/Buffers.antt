@@ -4,10 +4,8 @@ use Rattle.std.specs.FinMap as map
 use Rattle.components.specs.declared.kind.Kind.{Kind}
 use Rattle.components.specs.declared.kind.Kind.TheVariants.{Buffer, Fork}
 use Rattle.components.specs.Name.{Name, Port}
-use Rattle.components.specs.Kind.{Shape}
-use Rattle.components.specs.Node.{Body}
 use Rattle.components.specs.NamedGraph.{NamedGraph, without_node, with_wire}
-use Rattle.circuits.specs.Circuit.{Circuit}
+use Rattle.circuits.specs.Circuit.{Circuit, circuit_of}
 
 -- the first port of a side
 abbrev pub first_port : Name → Port
@@ -32,7 +30,7 @@ IsBufferLike (Buffer shape) = Unit {0}
 IsBufferLike (Fork shape count) = count ≡ 1
 IsBufferLike _ = ⊥
 
--- b can be left out: it passes tokens on, and is not wired to itself
+-- b can be left out: it passes tokens on, and is not fed by itself
 pub record CanDropBuffer (c : Circuit) (b : Name) : Type 0 where
   pub kind : Kind
   pub is_kind : c.kind_at b ≡ Some kind
@@ -41,15 +39,9 @@ pub record CanDropBuffer (c : Circuit) (b : Name) : Type 0 where
   pub is_before : c.feeder (first_port b) ≡ Some before
   pub other : before.node ≢ b
 
--- graph h is graph g without the Buffer b, which is not wired to itself
+-- graph h is graph g without b: what fed b feeds the input that b fed
 pub record IsWithoutBuffer (h g : NamedGraph) (b : Name) : Type 0 where
-  pub body : Body
-  pub shape : Shape
-  pub is_body : map.get g.nodes b ≡ Some body
-  pub is_buffer : body.kind ≡ Buffer shape
-  pub source : Port
+  pub can : CanDropBuffer (circuit_of g) b
   pub target : Port
-  pub before : map.get g.feeders (first_port b) ≡ Some source
   pub after : map.get g.feeders target ≡ Some (first_port b)
-  pub other : source.node ≢ b
-  pub is : h ≡ with_wire (without_node g b) source target
+  pub is : h ≡ with_wire (without_node g b) can.before target

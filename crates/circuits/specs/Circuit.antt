@@ -5,6 +5,7 @@ use Rattle.components.specs.declared.kind.Kind.{Kind}
 use Rattle.components.specs.Name.{Name, Port, port_get}
 use Rattle.components.specs.Kind.{Shape, ins, outs, KindOk}
 use Rattle.components.specs.Node.{Body}
+use Rattle.components.specs.Wire.{IsWireOf}
 use Rattle.components.specs.NamedGraph.{NamedGraph}
 
 -- a circuit is these two functions: equal circuits answer alike at each name and each port
@@ -26,20 +27,14 @@ abbrev pub kind_of : Circuit → Option Port → Option Kind
 kind_of c None = None
 kind_of c (Some p) = c.kind_at p.node
 
--- a wire from output q to input p, with one shape at both its ends
-pub record Wire (c : Circuit) (p q : Port) : Type 0 where
-  pub target : Kind
-  pub source : Kind
-  pub shape : Shape
-  pub is_target : c.kind_at p.node ≡ Some target
-  pub is_source : c.kind_at q.node ≡ Some source
-  pub enters : port_get (ins target) p.port ≡ Some shape
-  pub leaves : port_get (outs source) q.port ≡ Some shape
+-- a wire of the circuit, with one shape at both its ends
+abbrev pub Wire : Circuit → Port → Port → Type 0
+Wire c source target = IsWireOf c.kind_at (λ (k : Kind). k) source target
 
 -- each kind meets its row, each port stands on exactly one wire, each wire has one shape, and the names have a bound on their length
 pub record Typed (c : Circuit) : Type 0 where
   pub kinds : (n : Name) (k : Kind) → c.kind_at n ≡ Some k → KindOk k
-  pub wires : (p q : Port) → c.feeder p ≡ Some q → Wire c p q
+  pub wires : (p q : Port) → c.feeder p ≡ Some q → Wire c q p
   pub inputs : (p : Port) (k : Kind) (a : Shape) → c.kind_at p.node ≡ Some k →
       port_get (ins k) p.port ≡ Some a → (q : Port) × (c.feeder p ≡ Some q)
   pub outputs : (q : Port) (k : Kind) (a : Shape) → c.kind_at q.node ≡ Some k →

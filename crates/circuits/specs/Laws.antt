@@ -1,14 +1,11 @@
--- The laws of circuits. AllByRecursion is proved of a function of this crate.
-use Rattle.std.specs.Prelude.{◌≡◌, ◌↔◌, ℕ, drop, List, [], ◌∷◌, Some}
-use Rattle.std.specs.List.{AllByRecursion}
-use Rattle.port_types.specs.Shape.{IsShape}
-use Rattle.port_types.specs.Token.{Fits}
+-- The laws of circuits.
+use Rattle.std.specs.Prelude.{◌≡◌, ℕ, drop, List, Some}
 use Rattle.components.specs.declared.kind.Kind.{Kind}
-use Rattle.components.specs.declared.kind.Kind.TheVariants.{Buffer, Init, Tagger}
+use Rattle.components.specs.declared.kind.Kind.TheVariants.{Buffer, Tagger}
 use Rattle.components.specs.Name.{Name, Port}
-use Rattle.components.specs.Kind.{Shape, field, KindOk}
+use Rattle.components.specs.Kind.{Shape}
 use Rattle.components.specs.NamedGraph.{NamedGraph, IsTyped}
-use Rattle.circuits.specs.PortTokens.{Token, single, one}
+use Rattle.circuits.specs.PortTokens.{Token}
 use Rattle.circuits.specs.Circuit.{Circuit, Typed, circuit_of}
 use Rattle.circuits.specs.State.{State, start, IsStateOf}
 use Rattle.circuits.specs.Firing.{Label, Label.Fire}
@@ -19,10 +16,6 @@ use Rattle.circuits.specs.Refines.{Refines}
 use Rattle.circuits.specs.Buffers.{first_port, drop_node, CanDropBuffer, IsWithoutBuffer}
 use Rattle.circuits.specs.Root.{Root}
 use Rattle.circuits.specs.Drains.{IsInit, IsRest, Drains}
-use Rattle.circuits.specs.LoneWire.{entry_name, exit_name, lone_wire, fed, took}
-use Rattle.circuits.specs.Listed.{fed_at, taken_at}
-use Rattle.circuits.specs.LoneTagger.{fresh, work, back, results, lone_tagger}
-use Rattle.circuits.specs.LoneInit.{bits, out, lone_init}
 
 -- what a typed circuit holds at the start fits
 abbrev pub StartIsState : Type 0
@@ -94,19 +87,6 @@ abbrev pub GraphPutRefines : Type 0
 GraphPutRefines = (h g : NamedGraph) (b : Name) → IsTyped g → IsWithoutBuffer h g b →
     Refines (circuit_of g) (circuit_of h)
 
--- a wire from an Entry to an Exit is typed
-abbrev pub WireIsTyped : Type 0
-WireIsTyped = (shape : Shape) → IsShape shape → IsTyped (lone_wire shape)
-
--- a token that is fed to it can be taken from it
-abbrev pub WireShowsToken : Type 0
-WireShowsToken = (shape : Shape) (v : Token) → Fits shape v →
-    Shows (circuit_of (lone_wire shape)) (fed v ∷ took v ∷ [])
-
--- and none can be taken before
-abbrev pub WireShowsNoOther : Type 0
-WireShowsNoOther = (shape : Shape) (v : Token) → ¬ (Shows (circuit_of (lone_wire shape)) (took v ∷ []))
-
 -- an input has at most one root
 abbrev pub RootIsOne : Type 0
 RootIsOne = (c : Circuit) (p q r : Port) → Root c p q → Root c p r → q ≡ r
@@ -137,39 +117,3 @@ DropDrains = (c : Circuit) (b : Name) (ins outs : Name → List Token) → Typed
 abbrev pub GraphDropDrains : Type 0
 GraphDropDrains = (h g : NamedGraph) (b : Name) (ins outs : Name → List Token) → IsTyped g → IsWithoutBuffer h g b →
     Drains (circuit_of g) ins outs → Drains (circuit_of h) ins outs
-
--- a wire from an Entry to an Exit drains fitting tokens to themselves, and to nothing else
-abbrev pub WireDrains : Type 0
-WireDrains = (shape : Shape) (ins outs : Name → List Token) →
-    Drains (circuit_of (lone_wire shape)) ins outs ↔ (AllByRecursion (Fits shape) (ins entry_name) × (outs exit_name ≡ ins entry_name))
-
--- a Tagger with an Entry or an Exit at each port is typed
-abbrev pub TaggerIsTyped : Type 0
-TaggerIsTyped = (shape : Shape) (tags : ℕ) → KindOk (Tagger shape tags) → IsTyped (lone_tagger shape tags)
-
--- with two tags it gives the results in the order in which the tokens came, although the second result comes back first
-abbrev pub TaggerShowsInOrder : Type 0
-TaggerShowsInOrder = (shape : Shape) (v u a b : Token) → Fits shape v → Fits shape u → Fits shape a → Fits shape b →
-    Shows (circuit_of (lone_tagger shape 2))
-    (fed_at fresh v ∷ fed_at fresh u ∷ taken_at work (0 ∷ v) ∷ taken_at work (1 ∷ u) ∷
-    fed_at back (1 ∷ b) ∷ fed_at back (0 ∷ a) ∷ taken_at results a ∷ taken_at results b ∷ [])
-
--- and where only the second result has come back it gives none, whatever its tags
-abbrev pub TaggerShowsNoOther : Type 0
-TaggerShowsNoOther = (shape : Shape) (tags : ℕ) (v u b y : Token) (first second : ℕ) →
-    ¬ (Shows (circuit_of (lone_tagger shape tags))
-    (fed_at fresh v ∷ fed_at fresh u ∷ taken_at work (first ∷ v) ∷ taken_at work (second ∷ u) ∷
-    fed_at back (second ∷ b) ∷ taken_at results y ∷ []))
-
--- an Init between an Entry and a Buffer before an Exit is typed
-abbrev pub InitIsTyped : Type 0
-InitIsTyped = (value mark : ℕ) → KindOk (Init value mark) → IsTyped (lone_init value mark)
-
--- at rest the Init's value has passed the Buffer
-abbrev pub InitRests : Type 0
-InitRests = (value mark : ℕ) → (rest : State) × IsRest (circuit_of (lone_init value mark)) rest × (rest.wires (first_port out) ≡ one (single value))
-
--- it drains bits to the value followed by them, and to nothing else
-abbrev pub InitDrains : Type 0
-InitDrains = (value mark : ℕ) (ins outs : Name → List Token) → KindOk (Init value mark) →
-    Drains (circuit_of (lone_init value mark)) ins outs ↔ (AllByRecursion (Fits (field 1)) (ins bits) × (outs out ≡ single value ∷ ins bits))

@@ -9,8 +9,4 @@ pub mod Buffers
 pub mod TaggerOrder
 pub mod Root
 pub mod Drains
-pub mod LoneWire
-pub mod Listed
-pub mod LoneTagger
-pub mod LoneInit
 pub mod Laws

@@ -1,5 +1,5 @@
 -- Steps of a circuit, runs, and what is seen of them.
-use Rattle.std.specs.Prelude.{◌≡◌, ◌≢◌, ℕ, List, [], ◌∷◌, ◌++◌, Some}
+use Rattle.std.specs.Prelude.{◌≡◌, ◌≢◌, ℕ, List, [], ◌∷◌, ◌++◌, Some, map}
 use Rattle.components.specs.declared.kind.Kind.{Kind}
 use Rattle.components.specs.Name.{Name, Port}
 use Rattle.circuits.specs.PortTokens.{Token, share, share_from}
@@ -49,7 +49,9 @@ pub record Firing : Type 0 where
   pub node : Name
   pub choice : ℕ
 
--- the firings lead from s to t, one after another
+abbrev pub move_of : Firing → Move
+move_of f = record { node = f.node; label = Fire f.choice }
+
+-- a run of firings alone
 abbrev pub Firings : Circuit → State → List Firing → State → Type 0
-Firings c s [] t = s ≡ t
-Firings c s (f ∷ fs) t = (mid : State) × Step c s f.node (Fire f.choice) mid × Firings c mid fs t
+Firings c s fs t = Run c s (map move_of fs) t

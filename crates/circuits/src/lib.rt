@@ -3,7 +3,7 @@
 //! The crate has definitions and laws, and no calls: each function has a law of `specs/` for its contract, and a body that is empty or calls laws of a lower crate.
 #![tactic(auto)]
 
-ghost use Rattle.circuits.specs.Laws.{StartIsState, StepKeepsState, RunReachesState, FiringIsOne, TaggerKeepsOrder, RefinesItself, RefinesInSteps, RefinesAlone, PlugIsTyped, WholeRefines, DropRefines, PutRefines, CircuitIsTyped, GraphIsTyped, GraphDropRefines, GraphPutRefines, WireIsTyped, WireShowsToken, WireShowsNoOther, RootIsOne, RingHasNoRoot, RestIsOne, GraphRests, RestsWithoutInit, DropDrains, GraphDropDrains, WireDrains, TaggerIsTyped, TaggerShowsInOrder, TaggerShowsNoOther, InitIsTyped, InitRests, InitDrains};
+ghost use Rattle.circuits.specs.Laws.{StartIsState, StepKeepsState, RunReachesState, FiringIsOne, TaggerKeepsOrder, RefinesItself, RefinesInSteps, RefinesAlone, PlugIsTyped, WholeRefines, DropRefines, PutRefines, CircuitIsTyped, GraphIsTyped, GraphDropRefines, GraphPutRefines, RootIsOne, RingHasNoRoot, RestIsOne, GraphRests, RestsWithoutInit, DropDrains, GraphDropDrains};
 
 use op_table::value_fits;
 
@@ -73,13 +73,6 @@ pub fn graph_buffer_shows_nothing()
     value_fits();
 }
 
-/// The definitions are met and refuse: a wire from an Entry to an Exit shows a token that is fed and then taken, and none that is taken first.
-pub fn wire_shows_tokens()
-    ensures typed { WireIsTyped }
-    ensures token { WireShowsToken }
-    ensures no_other { WireShowsNoOther }
-{}
-
 /// An input has at most one root, and that of a Buffer that is wired to itself has none.
 pub fn one_root()
     ensures one { RootIsOne }
@@ -97,25 +90,4 @@ pub fn one_rest()
 pub fn buffer_keeps_drains()
     ensures circuit { DropDrains }
     ensures graph { GraphDropDrains }
-{}
-
-/// The definition of drains is met and refuses: a wire from an Entry to an Exit drains tokens that fit to themselves, and to nothing else.
-pub fn wire_drains_tokens()
-    ensures { WireDrains }
-{}
-
-/// The definition of a Tagger is met and refuses: two tokens go out with two tags, and the results leave in their order although the second comes back first;
-/// while the first is not back, none leaves.
-pub fn tagger_shows_results()
-    ensures typed { TaggerIsTyped }
-    ensures in_order { TaggerShowsInOrder }
-    ensures no_other { TaggerShowsNoOther }
-{}
-
-/// The definitions of rest and drains are met and refuse where an Init leads: its value passes the Buffer behind it, and bits drain to the value followed by them,
-/// and to nothing else.
-pub fn init_drains_bits()
-    ensures typed { InitIsTyped }
-    ensures rests { InitRests }
-    ensures drains { InitDrains }
 {}

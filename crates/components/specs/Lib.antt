@@ -6,6 +6,7 @@ pub mod Kind
 pub mod Component
 pub mod Numbered
 pub mod Node
+pub mod Wire
 pub mod NamedGraph
 pub mod Wired
 pub mod Fields

@@ -7,6 +7,7 @@ use Rattle.port_types.specs.declared.side.Side.TheVariants.{Ins, Outs}
 use Rattle.components.specs.Name.{Name, Port, name_cmp, port_cmp, port_get, IsName}
 use Rattle.components.specs.Kind.{Shape, ins, outs, KindOk}
 use Rattle.components.specs.Node.{Body}
+use Rattle.components.specs.Wire.{IsWireOf}
 
 -- each node by its name, and for each input that is on a wire the output that feeds it
 pub record NamedGraph : Type 0 where
@@ -41,15 +42,9 @@ without_node g name =
       feeders = map.retain_keys g.feeders (λ target. not (is_of name (Some target) || is_of name (map.get g.feeders target)));
     }
 
--- a wire from output source to input target, with one shape at both its ends
-pub record IsWire (g : NamedGraph) (source target : Port) : Type 0 where
-  pub from : Body
-  pub to : Body
-  pub shape : Shape
-  pub is_from : map.get g.nodes source.node ≡ Some from
-  pub is_to : map.get g.nodes target.node ≡ Some to
-  pub leaves : port_get (outs from.kind) source.port ≡ Some shape
-  pub enters : port_get (ins to.kind) target.port ≡ Some shape
+-- a wire of the graph, with one shape at both its ends
+abbrev pub IsWire : NamedGraph → Port → Port → Type 0
+IsWire g source target = IsWireOf (map.get g.nodes) (λ (body : Body). body.kind) source target
 
 -- both ports are there, with one shape, and stand on no wire
 pub record CanWire (g : NamedGraph) (source target : Port) : Type 0 where

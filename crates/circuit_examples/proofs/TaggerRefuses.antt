@@ -11,12 +11,12 @@ use Rattle.circuits.specs.State.{Slot, State, start, TagsDiffer}
 use Rattle.circuits.specs.Firing.{Label, Label.Feed, Label.Take, Label.Fire, waiting, finished, FiresTagger, Acts}
 use Rattle.circuits.specs.Run.{Step, Move, Run, trace, Shows}
 use Rattle.circuits.specs.Buffers.{first_port}
-use Rattle.circuits.specs.Listed.{fed_at, taken_at}
-use Rattle.circuits.specs.LoneTagger.{fresh, work, back, results, tagger, second_port, tagger_nodes, tagger_wires, lone_tagger}
+use Rattle.circuit_examples.specs.Listed.{fed_at, taken_at}
+use Rattle.circuit_examples.specs.LoneTagger.{fresh, work, back, results, tagger, second_port, tagger_nodes, tagger_wires, lone_tagger}
 use Rattle.circuits.proofs.Steps.{acts_at}
 use Rattle.circuits.proofs.TaggerRow.{newest_differs}
-use Rattle.circuits.proofs.Listed.{is_spelled, each_node}
-use Rattle.circuits.proofs.LoneTagger.{alone}
+use Rattle.circuit_examples.proofs.Listed.{is_spelled, each_node}
+use Rattle.circuit_examples.proofs.LoneTagger.{alone}
 
 -- the first move that is seen, where the firings before it keep what holds
 pub record Seen (c : Circuit) (holds : State → Type 0) (m : Move) (rest : List Move) (t : State) : Type 0 where

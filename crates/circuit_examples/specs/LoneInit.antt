@@ -5,7 +5,7 @@ use Rattle.components.specs.Name.{Name}
 use Rattle.components.specs.Kind.{field}
 use Rattle.components.specs.NamedGraph.{NamedGraph}
 use Rattle.circuits.specs.Buffers.{first_port}
-use Rattle.circuits.specs.Listed.{ListedNode, ListedWire, listed}
+use Rattle.circuit_examples.specs.Listed.{ListedNode, ListedWire, listed}
 
 -- the names of its nodes
 abbrev pub bits : Name

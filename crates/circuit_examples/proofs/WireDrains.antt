@@ -6,16 +6,17 @@ use Rattle.components.specs.declared.kind.Kind.{Kind}
 use Rattle.components.specs.declared.kind.Kind.TheVariants.{Entry, Exit}
 use Rattle.components.specs.Name.{Name, Port}
 use Rattle.components.specs.Kind.{Shape}
+use Rattle.components.specs.Lookups.{other_test}
+use Rattle.components.specs.Orders.{port_total, port_same, port_cases}
 use Rattle.circuits.specs.PortTokens.{Token}
 use Rattle.circuits.specs.Circuit.{circuit_of, kind_of}
 use Rattle.circuits.specs.State.{State, start, initial}
 use Rattle.circuits.specs.Run.{Firing, Firings}
 use Rattle.circuits.specs.Buffers.{first_port}
+use Rattle.circuits.specs.Laws.{RestsWithoutInit}
 use Rattle.circuits.specs.Drains.{IsInit, put_on, loaded, IsNoExit, Drains}
-use Rattle.circuits.specs.LoneWire.{entry_name, exit_name, lone_wire}
-use Rattle.circuits.proofs.Maps.{port_cases}
-use Rattle.circuits.proofs.Resting.{rests_without_init}
-use Rattle.circuits.proofs.LoneWire.{wire, is_wire, Node, Node.first, Node.last, node, no_fire}
+use Rattle.circuit_examples.specs.LoneWire.{entry_name, exit_name, lone_wire}
+use Rattle.circuit_examples.proofs.LoneWire.{wire, is_wire, Node, Node.first, Node.last, node, no_fire}
 
 -- the shape of an Entry or an Exit
 shape_of : Shape → Kind → Shape
@@ -51,19 +52,20 @@ module _ (shape : Shape) (ins outs : Name → List Token) where
   elsewhere p k (last is e) no_exit = absurd (subst IsNoExit e no_exit)
   elsewhere p k (first is e) no_exit =
       elim (port_cases p (first_port exit_name)) [
-        | inl same ↦ absurd (names_apart (sym is ∙ ap (λ (x : Port). x.node) same.is))
+        | inl same ↦ absurd (names_apart (sym is ∙ ap (λ (x : Port). x.node) same))
         | inr other ↦
-            ap (λ b. initial (kind_of (wire shape) (if b then Some (first_port entry_name) else None)) ++ put_on (wire shape) ins (if b then Some (first_port entry_name) else None)) other.test
-            ∙ ap (λ b. initial (kind_of (wire shape) (if b then Some (first_port entry_name) else None))) (sym other.test)
+            let test = other_test port_total port_same p (first_port exit_name) other in
+            ap (λ b. initial (kind_of (wire shape) (if b then Some (first_port entry_name) else None)) ++ put_on (wire shape) ins (if b then Some (first_port entry_name) else None)) test
+            ∙ ap (λ b. initial (kind_of (wire shape) (if b then Some (first_port entry_name) else None))) (sym test)
       ]
 
-  drains : AllByRecursion (Fits shape) (ins entry_name) → outs exit_name ≡ ins entry_name → Drains (wire shape) ins outs
-  drains fit same =
+  drains : RestsWithoutInit → AllByRecursion (Fits shape) (ins entry_name) → outs exit_name ≡ ins entry_name → Drains (wire shape) ins outs
+  drains law fit same =
       record {
         fit_in = λ n a e. entry_fits fit n a (node shape n (Entry a) e);
         fit_out = λ n a e. exit_fits (subst (AllByRecursion (Fits shape)) (sym same) fit) n a (node shape n (Exit a) e);
         rest = start (wire shape);
-        is_rest = rests_without_init (wire shape) (λ n k e. no_init shape n k (node shape n k e));
+        is_rest = law (wire shape) (λ n k e. no_init shape n k (node shape n k e));
         firings = [];
         end = loaded (wire shape) ins;
         leads = refl;
@@ -80,8 +82,8 @@ module _ (shape : Shape) (ins outs : Name → List Token) where
   to_itself d =
       sym (d.exits exit_name shape refl) ∙ ap (λ (s : State). s.wires (first_port exit_name)) (sym (nothing_fires (loaded (wire shape) ins) d.end d.firings d.leads))
 
-pub wire_drains : (shape : Shape) (ins outs : Name → List Token) → AllByRecursion (Fits shape) (ins entry_name) → outs exit_name ≡ ins entry_name → Drains (circuit_of (lone_wire shape)) ins outs
-wire_drains shape ins outs fit same = subst (λ c. Drains c ins outs) (sym (is_wire shape)) (drains shape ins outs fit same)
+pub wire_drains : RestsWithoutInit → (shape : Shape) (ins outs : Name → List Token) → AllByRecursion (Fits shape) (ins entry_name) → outs exit_name ≡ ins entry_name → Drains (circuit_of (lone_wire shape)) ins outs
+wire_drains law shape ins outs fit same = subst (λ c. Drains c ins outs) (sym (is_wire shape)) (drains shape ins outs law fit same)
 
 pub wire_drains_only : (shape : Shape) (ins outs : Name → List Token) → Drains (circuit_of (lone_wire shape)) ins outs → AllByRecursion (Fits shape) (ins entry_name) × (outs exit_name ≡ ins entry_name)
 wire_drains_only shape ins outs h =

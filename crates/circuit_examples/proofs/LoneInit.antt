@@ -6,9 +6,11 @@ use Rattle.std.proofs.lemmas.Option.{same_Some}
 use Rattle.port_types.specs.Token.{Fits}
 use Rattle.components.specs.declared.kind.Kind.{Kind}
 use Rattle.components.specs.declared.kind.Kind.TheVariants.{Entry, Exit, Buffer, Init}
-use Rattle.components.specs.Name.{Name, Port, port_cmp, port_get}
-use Rattle.components.specs.Kind.{Shape, field, ins, outs, KindOk}
+use Rattle.components.specs.Name.{Name, Port, port_cmp}
+use Rattle.components.specs.Kind.{Shape, field, KindOk}
 use Rattle.components.specs.NamedGraph.{IsTyped}
+use Rattle.components.specs.Lookups.{other_test}
+use Rattle.components.specs.Orders.{port_total, port_same, port_cases, same_bytes}
 use Rattle.circuits.specs.PortTokens.{Token, single, one, at_port, share, share_from}
 use Rattle.circuits.specs.Circuit.{Circuit, Typed, circuit_of, kind_of}
 use Rattle.circuits.specs.State.{Slot, State, start, initial}
@@ -16,50 +18,25 @@ use Rattle.circuits.specs.Firing.{Label.Fire, Fires}
 use Rattle.circuits.specs.Run.{Step, Firing, Firings}
 use Rattle.circuits.specs.Buffers.{first_port}
 use Rattle.circuits.specs.Root.{Root.here}
+use Rattle.circuits.specs.Laws.{GraphIsTyped, RestIsOne}
 use Rattle.circuits.specs.Drains.{Led, IsRest, put_on, loaded, IsNoExit, Drains}
-use Rattle.circuits.specs.LoneInit.{bits, init, passer, out, init_nodes, init_wires, lone_init}
-use Rattle.circuits.proofs.Names.{name_cases, same_test}
+use Rattle.circuit_examples.specs.LoneInit.{bits, init, passer, out, init_nodes, init_wires, lone_init}
+use Rattle.circuits.proofs.Names.{name_cases}
 use Rattle.circuits.proofs.Steps.{acts_at, share_same, share_other}
-use Rattle.circuits.proofs.Maps.{port_cases}
-use Rattle.circuits.proofs.Listed.{spelled, is_spelled, each_node, InputsFed, OutputsFeed, listed_typed}
-use Rattle.circuits.proofs.GraphCircuits.{graph_typed}
-use Rattle.circuits.proofs.Resting.{rest_is_one}
+use Rattle.circuit_examples.proofs.Listed.{spelled, is_spelled, each_node, no_in, no_out, one_in, one_out, other_node, listed_typed, graph_is_typed}
 
 module _ (value mark : ℕ) where
   abbrev c : Circuit
   c = spelled (init_nodes value mark) init_wires
 
-  -- its ports are on wires
-  no_in : (n : Name) (k : Kind) → ins k ≡ [] → InputsFed c n k
-  no_in n k e i a f = let z : None ≡ Some a = ap (λ x. port_get x i) (sym e) ∙ f in cc
-
-  no_out : (n : Name) (k : Kind) → outs k ≡ [] → OutputsFeed c n k
-  no_out n k e i a f = let z : None ≡ Some a = ap (λ x. port_get x i) (sym e) ∙ f in cc
-
-  one_of : (b a : Shape) (i : ℕ) → port_get (b ∷ []) i ≡ Some a → i ≡ 1
-  one_of b a zero f = let z : None ≡ Some a = f in cc
-  one_of b a (suc zero) f = refl
-  one_of b a (suc (suc i)) f = let z : None ≡ Some a = f in cc
-
-  one_in : (n : Name) (k : Kind) → ins k ≡ field 1 ∷ [] → (q : Port) → c.feeder (first_port n) ≡ Some q → InputsFed c n k
-  one_in n k e q fed i a f =
-      (q, ap (λ j. c.feeder (record { node = n; port = j })) (one_of (field 1) a i (ap (λ x. port_get x i) (sym e) ∙ f)) ∙ fed)
-
-  one_out : (n : Name) (k : Kind) → outs k ≡ field 1 ∷ [] → (p : Port) → c.feeder p ≡ Some (first_port n) → OutputsFeed c n k
-  one_out n k e p fed i a f =
-      (p, fed ∙ ap (λ j. Some (record { node = n; port = j })) (sym (one_of (field 1) a i (ap (λ x. port_get x i) (sym e) ∙ f))))
-
-  differ : (p q x y : Port) → p.node ≢ q.node → p ≡ q → x ≡ y
-  differ p q x y ne e = absurd (ne (ap (λ (z : Port). z.node) e))
-
   bits_init : bits ≢ init
-  bits_init e = let z : false ≡ true = same_test bits init e in cc
+  bits_init e = let z : false ≡ true = same_bytes bits init e in cc
 
   bits_passer : bits ≢ passer
-  bits_passer e = let z : false ≡ true = same_test bits passer e in cc
+  bits_passer e = let z : false ≡ true = same_bytes bits passer e in cc
 
   init_passer : init ≢ passer
-  init_passer e = let z : false ≡ true = same_test init passer e in cc
+  init_passer e = let z : false ≡ true = same_bytes init passer e in cc
 
   narrow : (k d : ℕ) → k < 1 → slice_index_or (field 1) k d ≤ 64
   narrow zero d below = omega arith
@@ -74,39 +51,39 @@ module _ (value mark : ℕ) where
       (record {
         kinds = (bit_ok, (ok, (bit_ok, (bit_ok, tt))));
         are_wires = (
-          record { target = Init value mark; source = Entry (field 1); shape = field 1; is_target = refl; is_source = refl; enters = refl; leaves = refl },
+          record { to = Init value mark; from = Entry (field 1); shape = field 1; is_to = refl; is_from = refl; enters = refl; leaves = refl },
           (
-            record { target = Buffer (field 1); source = Init value mark; shape = field 1; is_target = refl; is_source = refl; enters = refl; leaves = refl },
-            (record { target = Exit (field 1); source = Buffer (field 1); shape = field 1; is_target = refl; is_source = refl; enters = refl; leaves = refl }, tt),
+            record { to = Buffer (field 1); from = Init value mark; shape = field 1; is_to = refl; is_from = refl; enters = refl; leaves = refl },
+            (record { to = Exit (field 1); from = Buffer (field 1); shape = field 1; is_to = refl; is_from = refl; enters = refl; leaves = refl }, tt),
           ),
         );
         inputs = (
-          no_in bits (Entry (field 1)) refl,
+          no_in c bits (Entry (field 1)) refl,
           (
-            one_in init (Init value mark) refl (first_port bits) refl,
-            (one_in passer (Buffer (field 1)) refl (first_port init) refl, (one_in out (Exit (field 1)) refl (first_port passer) refl, tt)),
+            one_in c init (Init value mark) (field 1) refl (first_port bits) refl,
+            (one_in c passer (Buffer (field 1)) (field 1) refl (first_port init) refl, (one_in c out (Exit (field 1)) (field 1) refl (first_port passer) refl, tt)),
           ),
         );
         outputs = (
-          one_out bits (Entry (field 1)) refl (first_port init) refl,
+          one_out c bits (Entry (field 1)) (field 1) refl (first_port init) refl,
           (
-            one_out init (Init value mark) refl (first_port passer) refl,
-            (one_out passer (Buffer (field 1)) refl (first_port out) refl, (no_out out (Exit (field 1)) refl, tt)),
+            one_out c init (Init value mark) (field 1) refl (first_port passer) refl,
+            (one_out c passer (Buffer (field 1)) (field 1) refl (first_port out) refl, (no_out c out (Exit (field 1)) refl, tt)),
           ),
         );
         once = (
-          ((λ e. refl), (differ _ _ _ _ (λ e. bits_init (sym e)), (differ _ _ _ _ (λ e. bits_passer (sym e)), tt))),
+          ((λ e. refl), (other_node _ _ _ _ (λ e. bits_init (sym e)), (other_node _ _ _ _ (λ e. bits_passer (sym e)), tt))),
           (
-            (differ _ _ _ _ bits_init, ((λ e. refl), (differ _ _ _ _ (λ e. init_passer (sym e)), tt))),
-            ((differ _ _ _ _ bits_passer, (differ _ _ _ _ init_passer, ((λ e. refl), tt))), tt),
+            (other_node _ _ _ _ bits_init, ((λ e. refl), (other_node _ _ _ _ (λ e. init_passer (sym e)), tt))),
+            ((other_node _ _ _ _ bits_passer, (other_node _ _ _ _ init_passer, ((λ e. refl), tt))), tt),
           ),
         );
         size = 7;
         names = (omega arith, (omega arith, (omega arith, (omega arith, tt))));
       })
 
-  pub init_typed : KindOk (Init value mark) → IsTyped (lone_init value mark)
-  init_typed ok = graph_typed (lone_init value mark) (subst Typed (sym (is_spelled (init_nodes value mark) init_wires)) (typed ok))
+  pub init_typed : GraphIsTyped → KindOk (Init value mark) → IsTyped (lone_init value mark)
+  init_typed law ok = graph_is_typed law (init_nodes value mark) init_wires (typed ok)
 
   -- the state in which the wires into the Init, the Buffer and the Exit hold these
   abbrev held : List Token → List Token → List Token → Port → List Token
@@ -127,18 +104,21 @@ module _ (value mark : ℕ) where
   by_port : (P : Port → Type 0) → P (first_port init) → P (first_port passer) → P (first_port out) → ((p : Port) → Elsewhere p → P p) → (p : Port) → P p
   by_port P at_init at_passer at_out else_ p =
       elim (port_cases p (first_port init)) [
-        | inl is ↦ subst P (sym is.is) at_init
+        | inl is ↦ subst P (sym is) at_init
         | inr a ↦ elim (port_cases p (first_port passer)) [
-          | inl is ↦ subst P (sym is.is) at_passer
+          | inl is ↦ subst P (sym is) at_passer
           | inr b ↦ elim (port_cases p (first_port out)) [
-            | inl is ↦ subst P (sym is.is) at_out
+            | inl is ↦ subst P (sym is) at_out
             | inr d ↦
+                let a_test = other_test port_total port_same p (first_port init) a in
+                let b_test = other_test port_total port_same p (first_port passer) b in
+                let d_test = other_test port_total port_same p (first_port out) d in
                 else_ p
                 (record {
-                  no_init = a.is_not;
-                  no_passer = b.is_not;
-                  empty = λ xs ys zs i. if a.test i then xs else (if b.test i then ys else (if d.test i then zs else []));
-                  unfed = λ i. if a.test i then Some (first_port bits) else (if b.test i then Some (first_port init) else (if d.test i then Some (first_port passer) else None));
+                  no_init = a;
+                  no_passer = b;
+                  empty = λ xs ys zs i. if a_test i then xs else (if b_test i then ys else (if d_test i then zs else []));
+                  unfed = λ i. if a_test i then Some (first_port bits) else (if b_test i then Some (first_port init) else (if d_test i then Some (first_port passer) else None));
                 })
           ]
         ]
@@ -395,10 +375,10 @@ module _ (value mark : ℕ) where
     firings_keep s (f ∷ fs) t run =
         elim (passed s f.node f.choice run.0 run.1) [ inl h ↦ init_keeps s f.choice run.0 h | inr h ↦ passer_keeps s f.choice run.0 h ] ∙ firings_keep run.0 fs t run.2
 
-    drains_only : Drains c given gotten → AllByRecursion (Fits (field 1)) (given bits) × (gotten out ≡ single value ∷ given bits)
+    drains_only : RestIsOne → Drains c given gotten → AllByRecursion (Fits (field 1)) (given bits) × (gotten out ≡ single value ∷ given bits)
     unfolding rest
-    drains_only d =
-        let same : d.rest ≡ rest = rest_is_one c d.rest rest d.is_rest rests in
+    drains_only law d =
+        let same : d.rest ≡ rest = law c d.rest rest d.is_rest rests in
         let no_init : d.end.wires (first_port init) ≡ [] = d.others (first_port init) (Init value mark) refl tt ∙ ap (λ (s : State). s.wires (first_port init)) same in
         let no_passer : d.end.wires (first_port passer) ≡ [] = d.others (first_port passer) (Buffer (field 1)) refl tt ∙ ap (λ (s : State). s.wires (first_port passer)) same in
         let kept : single value ∷ given bits ≡ all_of d.end = sym (ap all_of (loaded_is given)) ∙ firings_keep (loaded c given) d.firings d.end d.leads in (
@@ -412,7 +392,7 @@ pub init_drains : (value mark : ℕ) (given gotten : Name → List Token) → Ki
 init_drains value mark given gotten ok fit is =
     subst (λ z. Drains z given gotten) (sym (is_spelled (init_nodes value mark) init_wires)) (drains value mark given gotten ok fit is)
 
-pub init_drains_only : (value mark : ℕ) (given gotten : Name → List Token) → Drains (circuit_of (lone_init value mark)) given gotten →
+pub init_drains_only : RestIsOne → (value mark : ℕ) (given gotten : Name → List Token) → Drains (circuit_of (lone_init value mark)) given gotten →
     AllByRecursion (Fits (field 1)) (given bits) × (gotten out ≡ single value ∷ given bits)
-init_drains_only value mark given gotten d =
-    drains_only value mark given gotten (subst (λ z. Drains z given gotten) (is_spelled (init_nodes value mark) init_wires) d)
+init_drains_only law value mark given gotten d =
+    drains_only value mark given gotten law (subst (λ z. Drains z given gotten) (is_spelled (init_nodes value mark) init_wires) d)

@@ -5,7 +5,7 @@ use Rattle.components.specs.Name.{Name, Port}
 use Rattle.components.specs.Kind.{Shape, tagged}
 use Rattle.components.specs.NamedGraph.{NamedGraph}
 use Rattle.circuits.specs.Buffers.{first_port}
-use Rattle.circuits.specs.Listed.{ListedNode, ListedWire, listed}
+use Rattle.circuit_examples.specs.Listed.{ListedNode, ListedWire, listed}
 
 -- the second port of a side
 abbrev pub second_port : Name → Port

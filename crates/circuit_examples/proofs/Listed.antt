@@ -1,20 +1,22 @@
 -- The circuit of a graph that is listed, and when it is typed.
-use Rattle.std.proofs.Common.{◌≡◌, ℕ, ◌<◌, inl, inr, Bool, true, false, refl, sym, ap, subst, ◌∙◌, bytes_eq, cond, if◌then◌else◌, length, List, [], ◌∷◌, Option, Some, None}
+use Rattle.std.proofs.Common.{◌≡◌, ◌≢◌, ℕ, zero, suc, ◌<◌, inl, inr, Bool, true, false, refl, sym, ap, subst, ◌∙◌, bytes_eq, cond, if◌then◌else◌, length, List, [], ◌∷◌, Option, Some, None}
 use Rattle.std.specs.Ordering.{eq_by_cmp}
 use Rattle.std.specs.FinMap as map
 use Rattle.std.specs.List.{AllByRecursion}
-use Rattle.std.proofs.lemmas.Option.{same_Some}
+use Rattle.std.proofs.lemmas.Map.Text.{is_eq-slice_cmp}
+use Rattle.std.proofs.lemmas.Option.{none-some, same_Some}
 use Rattle.components.specs.declared.kind.Kind.{Kind}
 use Rattle.components.specs.Name.{Name, Port, name_cmp, port_cmp, port_get}
-use Rattle.components.specs.Kind.{ins, outs, KindOk}
+use Rattle.components.specs.Kind.{Shape, ins, outs, KindOk}
 use Rattle.components.specs.Node.{Body}
+use Rattle.components.specs.NamedGraph.{IsTyped}
+use Rattle.components.specs.Lookups.{same_test, other_test}
+use Rattle.components.specs.Orders.{name_total, port_total, port_same, port_cases}
 use Rattle.circuits.specs.Circuit.{Circuit, Wire, Typed, circuit_of, kind_of_body}
-use Rattle.circuits.specs.LoneWire.{bare}
-use Rattle.circuits.specs.Listed.{ListedNode, ListedWire, with_nodes, listed}
+use Rattle.circuits.specs.Buffers.{first_port}
+use Rattle.circuits.specs.Laws.{GraphIsTyped}
+use Rattle.circuit_examples.specs.Listed.{bare, ListedNode, ListedWire, with_nodes, listed}
 use Rattle.circuits.proofs.Names.{name_cases}
-use Rattle.circuits.proofs.Beside.{none_some}
-use Rattle.circuits.proofs.Renaming.{circuit_same}
-use Rattle.circuits.proofs.Maps.{port_cases, get_with_name, get_with_port}
 
 -- the circuit, spelled out
 abbrev pub kind_in : List ListedNode → Name → Option Kind
@@ -39,8 +41,9 @@ feeder_cond false q o = refl
 node_at : (nodes : List ListedNode) (n : Name) → kind_of_body (map.get (with_nodes nodes).nodes n) ≡ kind_in nodes n
 node_at [] n = ap kind_of_body (map.get-empty name_cmp n)
 node_at (node ∷ nodes) n =
-    ap kind_of_body (get_with_name (with_nodes nodes).nodes node.name (bare node.kind) n)
-    ∙ kind_cond (bytes_eq n node.name) node.kind (map.get (with_nodes nodes).nodes n)
+    ap kind_of_body (map.get-insert name_total (with_nodes nodes).nodes node.name (bare node.kind) n)
+    ∙ kind_cond (eq_by_cmp name_cmp n node.name) node.kind (map.get (with_nodes nodes).nodes n)
+    ∙ ap (λ b. if b then Some node.kind else kind_of_body (map.get (with_nodes nodes).nodes n)) (is_eq-slice_cmp n node.name)
     ∙ ap (λ z. if bytes_eq n node.name then Some node.kind else z) (node_at nodes n)
 
 same_nodes : (nodes : List ListedNode) (wires : List ListedWire) → (listed nodes wires).nodes ≡ (with_nodes nodes).nodes
@@ -54,17 +57,20 @@ no_wires (node ∷ nodes) p = no_wires nodes p
 wire_at : (nodes : List ListedNode) (wires : List ListedWire) (p : Port) → map.get (listed nodes wires).feeders p ≡ feeder_in wires p
 wire_at nodes [] p = no_wires nodes p
 wire_at nodes (wire ∷ wires) p =
-    get_with_port (listed nodes wires).feeders wire.target wire.source p
+    map.get-insert port_total (listed nodes wires).feeders wire.target wire.source p
     ∙ feeder_cond (eq_by_cmp port_cmp p wire.target) wire.source (map.get (listed nodes wires).feeders p)
     ∙ ap (λ z. if eq_by_cmp port_cmp p wire.target then Some wire.source else z) (wire_at nodes wires p)
 
 pub is_spelled : (nodes : List ListedNode) (wires : List ListedWire) → circuit_of (listed nodes wires) ≡ spelled nodes wires
 is_spelled nodes wires =
-    circuit_same _ _ (λ n. ap (λ z. kind_of_body (map.get z n)) (same_nodes nodes wires) ∙ node_at nodes n) (wire_at nodes wires)
+    λ i. record {
+      kind_at = λ n. (ap (λ z. kind_of_body (map.get z n)) (same_nodes nodes wires) ∙ node_at nodes n) i;
+      feeder = λ p. wire_at nodes wires p i;
+    }
 
 -- what holds of each that is listed holds of each that there is
 pub each_node : (P : Name → Kind → Type 0) (nodes : List ListedNode) → AllByRecursion (λ node. P node.name node.kind) nodes → (n : Name) (k : Kind) → kind_in nodes n ≡ Some k → P n k
-each_node P [] all n k e = absurd (none_some None k refl e)
+each_node P [] all n k e = absurd (none-some k e)
 each_node P (node ∷ nodes) all n k e =
     elim (name_cases n node.name) [
       | inl is ↦
@@ -74,26 +80,54 @@ each_node P (node ∷ nodes) all n k e =
     ]
 
 each_wire : (P : Port → Port → Type 0) (wires : List ListedWire) → AllByRecursion (λ wire. P wire.target wire.source) wires → (p q : Port) → feeder_in wires p ≡ Some q → P p q
-each_wire P [] all p q e = absurd (none_some None q refl e)
+each_wire P [] all p q e = absurd (none-some q e)
 each_wire P (wire ∷ wires) all p q e =
     elim (port_cases p wire.target) [
       | inl is ↦
-          subst (P p) (same_Some wire.source q (sym (ap (λ b. if b then Some wire.source else feeder_in wires p) is.test) ∙ e))
-          (subst (λ z. P z wire.source) (sym is.is) all.0)
-      | inr ne ↦ each_wire P wires all.1 p q (sym (ap (λ b. if b then Some wire.source else feeder_in wires p) ne.test) ∙ e)
+          subst (P p) (same_Some wire.source q (sym (ap (λ b. if b then Some wire.source else feeder_in wires p) (same_test port_total port_same p wire.target is)) ∙ e))
+          (subst (λ z. P z wire.source) (sym is) all.0)
+      | inr ne ↦ each_wire P wires all.1 p q (sym (ap (λ b. if b then Some wire.source else feeder_in wires p) (other_test port_total port_same p wire.target ne)) ∙ e)
     ]
 
 -- each port of each node is on a wire
 abbrev pub InputsFed : Circuit → Name → Kind → Type 0
-InputsFed c n k = (i : ℕ) (a : List ℕ) → port_get (ins k) i ≡ Some a → (q : Port) × (c.feeder (record { node = n; port = i }) ≡ Some q)
+InputsFed c n k = (i : ℕ) (a : Shape) → port_get (ins k) i ≡ Some a → (q : Port) × (c.feeder (record { node = n; port = i }) ≡ Some q)
 
 abbrev pub OutputsFeed : Circuit → Name → Kind → Type 0
-OutputsFeed c n k = (i : ℕ) (a : List ℕ) → port_get (outs k) i ≡ Some a → (p : Port) × (c.feeder p ≡ Some (record { node = n; port = i }))
+OutputsFeed c n k = (i : ℕ) (a : Shape) → port_get (outs k) i ≡ Some a → (p : Port) × (c.feeder p ≡ Some (record { node = n; port = i }))
+
+-- a side with no port, and one with a port that is on a wire
+one_port : (b a : Shape) (i : ℕ) → port_get (b ∷ []) i ≡ Some a → i ≡ 1
+one_port b a zero e = absurd (none-some a e)
+one_port b a (suc zero) e = refl
+one_port b a (suc (suc i)) e = absurd (none-some a e)
+
+module _ (c : Circuit) (n : Name) (k : Kind) where
+  pub no_in : ins k ≡ [] → InputsFed c n k
+  no_in none i a e = absurd (none-some a (ap (λ x. port_get x i) (sym none) ∙ e))
+
+  pub no_out : outs k ≡ [] → OutputsFeed c n k
+  no_out none i a e = absurd (none-some a (ap (λ x. port_get x i) (sym none) ∙ e))
+
+  pub one_in : (b : Shape) → ins k ≡ b ∷ [] → (q : Port) → c.feeder (first_port n) ≡ Some q → InputsFed c n k
+  one_in b one q fed i a e =
+      (q, ap (λ j. c.feeder (record { node = n; port = j })) (one_port b a i (ap (λ x. port_get x i) (sym one) ∙ e)) ∙ fed)
+
+  pub one_out : (b : Shape) → outs k ≡ b ∷ [] → (p : Port) → c.feeder p ≡ Some (first_port n) → OutputsFeed c n k
+  one_out b one p fed i a e =
+      (p, fed ∙ ap (λ j. Some (record { node = n; port = j })) (sym (one_port b a i (ap (λ x. port_get x i) (sym one) ∙ e))))
+
+-- outputs that are not one
+pub other_node : (p q x y : Port) → p.node ≢ q.node → p ≡ q → x ≡ y
+other_node p q x y apart e = absurd (apart (ap (λ (z : Port). z.node) e))
+
+pub other_port : (p q x y : Port) → p.port ≢ q.port → p ≡ q → x ≡ y
+other_port p q x y apart e = absurd (apart (ap (λ (z : Port). z.port) e))
 
 -- what is shown of each that is listed
 pub record ListedTyped (nodes : List ListedNode) (wires : List ListedWire) : Type 0 where
   pub kinds : AllByRecursion (λ node. KindOk node.kind) nodes
-  pub are_wires : AllByRecursion (λ wire. Wire (spelled nodes wires) wire.target wire.source) wires
+  pub are_wires : AllByRecursion (λ wire. Wire (spelled nodes wires) wire.source wire.target) wires
   pub inputs : AllByRecursion (λ node. InputsFed (spelled nodes wires) node.name node.kind) nodes
   pub outputs : AllByRecursion (λ node. OutputsFeed (spelled nodes wires) node.name node.kind) nodes
   pub once : AllByRecursion (λ wire. AllByRecursion (λ other. other.source ≡ wire.source → wire.target ≡ other.target) wires) wires
@@ -104,7 +138,7 @@ pub listed_typed : (nodes : List ListedNode) (wires : List ListedWire) → Liste
 listed_typed nodes wires h =
     record {
       kinds = each_node (λ n k. KindOk k) nodes h.kinds;
-      wires = each_wire (Wire (spelled nodes wires)) wires h.are_wires;
+      wires = each_wire (λ p q. Wire (spelled nodes wires) q p) wires h.are_wires;
       inputs = λ p k a e f. each_node (InputsFed (spelled nodes wires)) nodes h.inputs p.node k e p.port a f;
       outputs = λ q k a e f. each_node (OutputsFeed (spelled nodes wires)) nodes h.outputs q.node k e q.port a f;
       once = λ p r q e f. each_wire (λ x y. (z : Port) → feeder_in wires z ≡ Some y → x ≡ z) wires (once_each wires h.once) p q e r f;
@@ -118,3 +152,6 @@ listed_typed nodes wires h =
       (λ z e. each_wire (λ x y. y ≡ wire.source → wire.target ≡ x) wires all.0 z wire.source e refl),
       once_each some all.1,
     )
+
+pub graph_is_typed : GraphIsTyped → (nodes : List ListedNode) (wires : List ListedWire) → Typed (spelled nodes wires) → IsTyped (listed nodes wires)
+graph_is_typed law nodes wires typed = law (listed nodes wires) (subst Typed (sym (is_spelled nodes wires)) typed)

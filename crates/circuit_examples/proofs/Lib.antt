@@ -1,0 +1,7 @@
+pub mod Listed
+mod Deeds
+mod LoneWire
+mod WireDrains
+mod LoneTagger
+mod TaggerRefuses
+mod LoneInit

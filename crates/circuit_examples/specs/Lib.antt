@@ -1,0 +1,5 @@
+pub mod Listed
+pub mod LoneWire
+pub mod LoneTagger
+pub mod LoneInit
+pub mod Laws
