@@ -1,6 +1,5 @@
 mod Pairs
 mod Names
-mod Ids
 mod Answers
 mod RowsMet
 mod AttributeRowsMet

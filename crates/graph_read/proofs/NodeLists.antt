@@ -17,7 +17,7 @@ use Rattle.graph_core.specs.GraphValue.{GraphValue, no_nodes, with_id}
 use Rattle.graph_read.specs.NodeReading.{NodeReading, node_reading}
 use Rattle.graph_read.specs.GraphReading.{then_read, names_of, nodes_reading}
 use Rattle.graph_read.specs.GraphSteps.{AreNodesOf, IsReadTo, StandInOrder, HasGained, IsAddedBehind}
-use Rattle.graph_read.proofs.Ids.{id_total, id_same}
+use Rattle.graph_core.specs.Ids.{id_total, id_same}
 
 -- the statements before this one have been read, with a node and a slot for each
 pub record IsReadSoFar (statements : List DocNode) (i : ℕ) (g : GraphValue) : Type 0 where

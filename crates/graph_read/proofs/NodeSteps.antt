@@ -1,10 +1,10 @@
 -- The reading of a node behind others: its first refusals, in order.
-use Rattle.std.proofs.Common.{rules, ◌≡◌, IsSome, ℕ, ◌≤◌, ◌<◌, Bool, true, false, cond, ◌||◌, List, [], ◌∷◌, Option, Some, is_some, Ok, Err, refl, sym, ap, ◌∙◌, arith, if◌then◌else◌}
-use Rattle.std.specs.Prelude.{bytes_eq, nat_le}
+use Rattle.std.proofs.Common.{rules, ◌≡◌, IsSome, ℕ, ◌≤◌, ◌<◌, Bool, true, false, cond, ◌||◌, List, [], ◌∷◌, Option, Some, None, is_some, Ok, Err, refl, sym, ap, ◌∙◌, arith, if◌then◌else◌}
+use Rattle.std.specs.Prelude.{bytes_eq, nat_le, MatchOption}
 use Rattle.std.specs.List.{list_any}
 use Rattle.std.specs.FinMap as map
 use Rattle.std.specs.Ordering.{eq_by_cmp}
-use Rattle.std.proofs.lemmas.Bool.{le-leb, leb-true, false_from_ne_true}
+use Rattle.std.proofs.lemmas.Bool.{true≢false, le-leb, leb-true, false_from_ne_true}
 use Rattle.std.proofs.lemmas.Map.Text.{is_eq-slice_cmp}
 use Rattle.dot_text.specs.declared.doc.DocNode.{DocNode}
 use Rattle.components.specs.Name.{Name, name_cmp}
@@ -12,7 +12,8 @@ use Rattle.components.specs.Node.{Body}
 use Rattle.graph_read.specs.declared.fault.GraphFaultKind.TheVariants.{NameTaken, TooMany}
 use Rattle.graph_read.specs.declared.fault.StatementFault.{StatementFault}
 use Rattle.graph_read.specs.declared.fault.StatementFault.TheVariants.{Refused, NoMemory}
-use Rattle.graph_core.specs.GraphValue.{GraphValue}
+use Rattle.graph_core.specs.declared.place.NodeId.{NodeId}
+use Rattle.graph_core.specs.GraphValue.{GraphValue, Denotes, IsGraph}
 use Rattle.graph_read.specs.Answers.{IsNodeRead}
 use Rattle.graph_read.specs.GraphSteps.{IsAdded}
 use Rattle.graph_read.specs.NodeReading.{NodeReading, node_reading, body_reading, within_limit, is_name}
@@ -44,6 +45,22 @@ is_key nodes name taken = search rules
 
 pub is_no_key : (nodes : map.FinMap name_cmp Body) (name : Name) → ¬ (IsSome (map.get nodes name)) → map.contains_key nodes name ≡ false
 is_no_key nodes name free = search rules
+
+-- a name is a key exactly where a node is found by it
+module _ (g : GraphValue) (is_graph : IsGraph g) (name : Name) (found : Option NodeId) (is : MatchOption found (map.get g.graph.nodes name ≡ None) (λ id. Denotes g id name)) where
+  pub is_key_found : is_some found ≡ true → map.contains_key g.graph.nodes name ≡ true
+  is_key_found some = at found is some
+    where
+      at : (o : Option NodeId) → MatchOption o (map.get g.graph.nodes name ≡ None) (λ id. Denotes g id name) → is_some o ≡ true → map.contains_key g.graph.nodes name ≡ true
+      at None none e = absurd (true≢false (sym e))
+      at (Some id) denotes e = ap is_some (is_graph.denoted id name denotes).1
+
+  pub no_key_found : is_some found ≡ false → map.contains_key g.graph.nodes name ≡ false
+  no_key_found none = at found is none
+    where
+      at : (o : Option NodeId) → MatchOption o (map.get g.graph.nodes name ≡ None) (λ id. Denotes g id name) → is_some o ≡ false → map.contains_key g.graph.nodes name ≡ false
+      at None free e = ap is_some free
+      at (Some id) denotes e = absurd (true≢false e)
 
 -- what a body's reading refuses is refused of its node
 pub refused_reading : (name : Name) (fault : StatementFault) (place : ℕ) (g : GraphValue) {read body : NodeReading} → read ≡ body → IsNodeRead name body (Err fault) → IsAdded read name place g g (Err fault)

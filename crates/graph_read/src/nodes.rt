@@ -45,6 +45,7 @@ fn add_statement(
     if !has_allowed_name(statement) {
         return Err(Refused(BadName));
     }
+    g.is_graph();
     match node_at(alloc, statement, place) {
         Ok(node) => match g.add_node(node) {
             Ok(_) => Ok(()),

@@ -6,7 +6,6 @@ pub mod Stripping
 pub mod Refining
 pub mod KeepingDrains
 pub mod Answering
-pub mod NodesById
 pub mod Bypassing
 pub mod TurnsById
 pub mod WordLists

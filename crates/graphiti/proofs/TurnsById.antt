@@ -1,89 +1,153 @@
--- The turns of the nodes, by their ids.
-use Rattle.std.proofs.Common.{◌≡◌, ◌≢◌, ℕ, suc, ◌+◌, ◌<◌, List, [], ◌∷◌, map, length, get_or, drop, add-one, drop-cons, Option, Some, None, IfSome, inl, inr, refl, sym, ap, subst, ◌∙◌}
-use Rattle.std.proofs.lemmas.Option.{none-some, same_Some}
+-- A Buffer by its id, and the turns of nodes by their ids.
+use Rattle.std.proofs.Common.{◌≡◌, ◌≢◌, inl, inr, ℕ, suc, ◌+◌, ◌<◌, List, [], ◌∷◌, map, length, get_or, drop, add-one, drop-cons, Option, Some, None, IfSome, IsSomeAnd, refl, sym, ap, subst, ◌∙◌}
 use Rattle.std.specs.Option.{option_map}
 use Rattle.std.specs.FinMap as fin
+use Rattle.graph_core.specs.declared.graph.AddWire.{AddWire}
+use Rattle.graph_core.specs.declared.graph.AddWire.TheVariants.{NoMemory}
+use Rattle.components.specs.declared.kind.Kind.TheVariants.{Buffer}
 use Rattle.components.specs.declared.node.Node.{Node}
+use Rattle.components.specs.Name.{Name, Port, name_cmp, port_get}
+use Rattle.components.specs.Kind.{Shape, ins}
+use Rattle.components.specs.Node.{body_of}
+use Rattle.components.specs.NamedGraph.{NamedGraph, IsTyped, CanWire, with_wire}
+use Rattle.std.proofs.lemmas.Option.{none-some, same_Some}
 use Rattle.graph_core.specs.declared.place.NodeId.{NodeId}
-use Rattle.components.specs.Name.{Name, name_cmp}
-use Rattle.components.specs.Node.{Body}
-use Rattle.components.specs.NamedGraph.{NamedGraph, IsTyped}
-use Rattle.graph_core.specs.GraphValue.{GraphValue, HasName, node_at, named, named_graph}
-use Rattle.graphiti.specs.Strips.{Turn, Turns}
-use Rattle.graph_core.specs.GraphValue.{AreInOrder}
-use Rattle.graphiti.proofs.Dropping.{turn_typed}
+use Rattle.graph_core.specs.declared.place.PortAt.{PortAt}
+use Rattle.graph_core.specs.GraphValue.{GraphValue, AreInOrder, Denotes, IsGraph, IsNodeAt, port_of, with_link, without_id}
+use Rattle.graph_core.specs.Wiring.{Refuses}
+use Rattle.components.specs.Lookups.{get_not_removed}
+use Rattle.graph_core.specs.Ids.{id_total, id_same}
+use Rattle.graph_core.specs.Denoting.{port_denoted, denoted_by, port_left, refused_by_memory}
+use Rattle.circuits.specs.Buffers.{first_port}
+use Rattle.graphiti.specs.Stripped.{IsBufferKind, IsBuffer}
+use Rattle.graphiti.specs.Strips.{Drops, StaysAtTurn, Turn, Turns}
+use Rattle.graphiti.specs.Bypass.{IsFedBuffer}
+use Rattle.graphiti.proofs.Dropping.{buffer_feeds, buffer_output, turn_typed}
+use Rattle.graphiti.proofs.Bypassing.{drops, can_join, target_other}
 use Rattle.graphiti.proofs.Meeting.{not_less_itself}
 use Rattle.graphiti.proofs.Turning.{IsAmong, Rise, keys_rise}
 
--- the ids are those of nodes with these names
-abbrev pub AreNamed : GraphValue → List NodeId → List Name → Type 0
-AreNamed g [] [] = Unit {0}
-AreNamed g [] (name ∷ names) = ⊥
-AreNamed g (id ∷ ids) [] = ⊥
-AreNamed g (id ∷ ids) (name ∷ names) = HasName g id name × AreNamed g ids names
+-- the first port of the node that an id denotes
+pub first_of : (g : GraphValue) (id : NodeId) (name : Name) (p : PortAt) → Denotes g id name → p ≡ record { node = id; port = 1 } → port_of g p ≡ first_port name
+first_of g id name p denotes first = ap (port_of g) first ∙ port_denoted g (record { node = id; port = 1 }) name denotes
+
+-- What feeds a Buffer
+
+module _ (g : GraphValue) (typed : IsTyped g.graph) (id : NodeId) (node : Node) (at : IsNodeAt g id node) (shape : Shape) (kind : node.kind ≡ Buffer shape) (port : PortAt) (first : port ≡ record { node = id; port = 1 }) (fed : Option PortAt)
+    (feeds : option_map (port_of g) fed ≡ fin.get g.graph.feeders (port_of g port)) where
+  pub is_buffer : IsBuffer g.graph node.name
+  is_buffer = subst (λ there. IsSomeAnd there (λ body. IsBufferKind body.kind)) (sym at.body) (subst IsBufferKind (sym kind) tt)
+
+  pub feeder : fin.get g.graph.feeders (first_port node.name) ≡ option_map (port_of g) fed
+  feeder = sym (feeds ∙ ap (fin.get g.graph.feeders) (first_of g id node.name port at.denotes first))
+
+  -- the Buffer's input stands on a wire
+  pub fed_some : fed ≢ None
+  fed_some none =
+      let (source, wired) = typed.inputs (first_port node.name) (body_of node) shape at.body (ap (λ kind. port_get (ins kind) 1) kind) in
+      none-some source (sym (ap (option_map (port_of g)) none) ∙ sym feeder ∙ wired)
+
+  -- a Buffer that its own output feeds stays
+  pub stays_itself : (source : PortAt) → fed ≡ Some source → source.node ≡ id → StaysAtTurn g.graph node.name
+  stays_itself source is same =
+      let wired : fin.get g.graph.feeders (first_port node.name) ≡ Some (port_of g source) = feeder ∙ ap (option_map (port_of g)) is in
+      let own : (port_of g source).node ≡ node.name = ap (λ (p : Port). p.node) (port_denoted g source node.name (ap (fin.get g.ids) same ∙ at.denotes)) in
+      inr (wired ∙ ap Some (buffer_output g.graph typed node.name is_buffer (first_port node.name) (port_of g source) wired own))
+
+  pub fed_other : IsGraph g → (source : PortAt) → fed ≡ Some source → source.node ≢ id → IsFedBuffer g id source
+  fed_other is source some apart =
+      record {
+        name = node.name;
+        denotes = at.denotes;
+        buffer = is_buffer;
+        fed = feeder ∙ ap (option_map (port_of g)) some;
+        other = λ same. apart (is.alone source.node id node.name (denoted_by g is source node.name (body_of node) at.body same) at.denotes);
+      }
+
+-- A Buffer taken out
+
+module _ (g : GraphValue) (typed : IsTyped g.graph) (id : NodeId) (source : PortAt) (is : IsFedBuffer g id source) where
+  -- its output stands on a wire
+  pub feeds_some : (p : PortAt) → p ≡ record { node = id; port = 1 } → ((target : Port) → fin.get g.graph.feeders target ≢ Some (port_of g p)) → ⊥
+  feeds_some p first none = let (to, feeds) = buffer_feeds g.graph typed is.name is.buffer in none to (feeds ∙ ap Some (sym (first_of g id is.name p is.denotes first)))
+
+  module _ (target p : PortAt) (first : p ≡ record { node = id; port = 1 }) (wired : fin.get g.graph.feeders (port_of g target) ≡ Some (port_of g p)) (h : GraphValue) (removed : h ≡ without_id g id is.name) where
+    feeds : fin.get g.graph.feeders (port_of g target) ≡ Some (first_port is.name)
+    feeds = wired ∙ ap Some (first_of g id is.name p is.denotes first)
+
+    left : (q : PortAt) → (port_of g q).node ≢ is.name → port_of h q ≡ port_of g q
+    left q other = ap (λ v. port_of v q) removed ∙ port_left g id is.name q (λ same. other (ap (λ (z : Port). z.node) (port_denoted g q is.name (ap (fin.get g.ids) same ∙ is.denotes))))
+
+    to_other : (port_of g target).node ≢ is.name
+    to_other = target_other g.graph typed is.name (port_of g source) (port_of g target) is.buffer is.fed feeds is.other
+
+    pub can : CanWire h.graph (port_of h source) (port_of h target)
+    can =
+        subst (λ z. CanWire z (port_of h source) (port_of h target)) (sym (ap (λ v. v.graph) removed))
+        (subst (λ q. CanWire (without_id g id is.name).graph q (port_of h target)) (sym (left source is.other))
+        (subst (λ q. CanWire (without_id g id is.name).graph (port_of g source) q) (sym (left target to_other))
+        (can_join g.graph typed is.name (port_of g source) (port_of g target) is.buffer is.fed feeds is.other)))
+
+    pub no_fault : (fault : AddWire) → Refuses h.graph (port_of h source) (port_of h target) fault → fault ≡ NoMemory
+    no_fault = refused_by_memory h.graph (port_of h source) (port_of h target) can
+
+    pub dropped : (k : GraphValue) → k ≡ with_link h source target → IfSome (fin.get g.ids id) (λ name. Drops g.graph name k.graph)
+    dropped k joined =
+        subst (λ o. IfSome o (λ name. Drops g.graph name k.graph)) (sym is.denotes)
+        (drops g.graph typed is.name (port_of g source) (port_of g target) is.buffer is.fed feeds is.other k.graph
+        (ap (λ v. v.graph) joined ∙ (λ i. with_wire (removed i).graph (left source is.other i) (left target to_other i))))
+
+    pub others_kept : (k : GraphValue) → k ≡ with_link h source target → (other : NodeId) → other ≢ id → fin.get k.ids other ≡ fin.get g.ids other
+    others_kept k joined other apart = ap (λ v. fin.get v.ids other) (joined ∙ ap (λ v. with_link v source target) removed) ∙ get_not_removed id_total id_same g.ids id other apart
+
+-- Turns
 
 -- the turns of the ids that are left lead from g to where all turns lead from the start
 pub record Underway (start : NamedGraph) (g : GraphValue) (ids : List NodeId) : Type 0 where
   pub names : List Name
-  pub typed : IsTyped (named_graph g)
-  pub are_named : AreNamed g ids names
+  pub typed : IsTyped g.graph
+  pub are_named : map (fin.get g.ids) ids ≡ map Some names
   pub rise : Rise names
-  pub leads : (h : NamedGraph) → Turns (named_graph g) names h → Turns start (fin.keys start.nodes) h
+  pub leads : (h : NamedGraph) → Turns g.graph names h → Turns start (fin.keys start.nodes) h
 
--- Before the first turn
+pub underway_first : (g : GraphValue) (ids : List NodeId) → IsTyped g.graph → AreInOrder g ids → Underway g.graph g ids
+underway_first g ids typed order = record { names = fin.keys g.graph.nodes; typed = typed; are_named = order; rise = keys_rise g.graph.nodes; leads = λ h turns. turns }
 
-has_name : (found : Option Node) (entry : Name × Body) → option_map named found ≡ Some entry → (node : Node) × (found ≡ Some node) × (node.name ≡ entry.0)
-has_name None entry is = absurd (none-some entry is)
-has_name (Some node) entry is = (node, refl, ap (λ (e : Name × Body). e.0) (same_Some (named node) entry is))
-
-named_in_order : (g : GraphValue) (ids : List NodeId) (entries : List (Name × Body)) → map (λ id. option_map named (node_at g id)) ids ≡ map Some entries → AreNamed g ids (map (λ e. e.0) entries)
-named_in_order g [] [] is = tt
-named_in_order g [] (entry ∷ entries) is = absurd (cc)
-named_in_order g (id ∷ ids) [] is = absurd (cc)
-named_in_order g (id ∷ ids) (entry ∷ entries) is = (has_name (node_at g id) entry (cc), named_in_order g ids entries (cc))
-
-pub underway_first : (g : GraphValue) (ids : List NodeId) → IsTyped (named_graph g) → AreInOrder g ids → Underway (named_graph g) g ids
-underway_first g ids typed order =
-    record {
-      names = fin.keys (named_graph g).nodes;
-      typed = typed;
-      are_named = named_in_order g ids (fin.entries (named_graph g).nodes) order;
-      rise = keys_rise (named_graph g).nodes;
-      leads = λ h turns. turns;
-    }
-
--- A turn
-
-module _ (g h : GraphValue) (id : NodeId) (others : (other : NodeId) → other ≢ id → node_at h other ≡ node_at g other) where
-  others_named : (name : Name) → HasName g id name → (ids : List NodeId) (names : List Name) → ((other : Name) → IsAmong other names → other ≢ name) → AreNamed g ids names → AreNamed h ids names
-  others_named name here [] [] apart are = tt
+module _ (g h : GraphValue) (id : NodeId) (others : (other : NodeId) → other ≢ id → fin.get h.ids other ≡ fin.get g.ids other) where
+  others_named : (name : Name) → Denotes g id name → (ids : List NodeId) (names : List Name) → ((other : Name) → IsAmong other names → other ≢ name) → map (fin.get g.ids) ids ≡ map Some names → map (fin.get h.ids) ids ≡ map Some names
+  others_named name here [] [] apart are = refl
   others_named name here [] (next ∷ names) apart are = are
-  others_named name here (other ∷ ids) [] apart are = are
+  others_named name here (other ∷ ids) [] apart are = absurd (cc)
   others_named name here (other ∷ ids) (next ∷ names) apart are =
-      let (node, live, same) = are.0 in
-      let differs : other ≢ id = λ is.
-      let one : node ≡ here.0 = same_Some node here.0 (sym live ∙ ap (node_at g) is ∙ here.1) in
-      apart next (inl refl) (sym same ∙ ap (λ (x : Node). x.name) one ∙ here.2) in
-      ((node, others other differs ∙ live, same), others_named name here ids names (λ n among. apart n (inr among)) are.1)
+      let named : Denotes g other next = cc in
+      let rest : map (fin.get g.ids) ids ≡ map Some names = cc in
+      let differs : other ≢ id = λ is. apart next (inl refl) (same_Some next name (sym named ∙ ap (fin.get g.ids) is ∙ here)) in
+      λ i. (others other differs ∙ named) i ∷ others_named name here ids names (λ n among. apart n (inr among)) rest i
 
-  underway_past : (start : NamedGraph) (ids : List NodeId) (names : List Name) → IsTyped (named_graph g) → AreNamed g (id ∷ ids) names → Rise names → ((k : NamedGraph) → Turns (named_graph g) names k → Turns start (fin.keys start.nodes) k) → IfSome (node_at g id) (λ node. Turn (named_graph g) node.name (named_graph h)) → Underway start h ids
-  underway_past start ids [] typed are rise leads turned = absurd are
-  underway_past start ids (name ∷ names) typed are rise leads turned =
-      let (node, live, same) = are.0 in
-      let turn : Turn (named_graph g) name (named_graph h) = subst (λ n. Turn (named_graph g) n (named_graph h)) same (subst (λ found. IfSome found (λ node. Turn (named_graph g) node.name (named_graph h))) live turned) in
-      record {
-        names = names;
-        typed = turn_typed (named_graph g) (named_graph h) name typed turn;
-        are_named = others_named name are.0 ids names (λ other among is. not_less_itself name (ap (name_cmp name) (sym is) ∙ rise.0 other among)) are.1;
-        rise = rise.1;
-        leads = λ k turns. leads k (named_graph h, turn, turns);
-      }
+  underway_next : (start : NamedGraph) (ids : List NodeId) → Underway start g (id ∷ ids) → IfSome (fin.get g.ids id) (λ name. Turn g.graph name h.graph) → Underway start h ids
+  underway_next start ids u turned = past u.names u.are_named u.rise u.leads
+    where
+      past : (names : List Name) → map (fin.get g.ids) (id ∷ ids) ≡ map Some names → Rise names → ((k : NamedGraph) → Turns g.graph names k → Turns start (fin.keys start.nodes) k) → Underway start h ids
+      past [] are rise leads = absurd (cc)
+      past (name ∷ names) are rise leads =
+          let denotes : Denotes g id name = cc in
+          let rest : map (fin.get g.ids) ids ≡ map Some names = cc in
+          let turn : Turn g.graph name h.graph = subst (λ o. IfSome o (λ name. Turn g.graph name h.graph)) denotes turned in
+          record {
+            names = names;
+            typed = turn_typed g.graph h.graph name u.typed turn;
+            are_named = others_named name denotes ids names (λ other among is. not_less_itself name (ap (name_cmp name) (sym is) ∙ rise.0 other among)) rest;
+            rise = rise.1;
+            leads = λ k turns. leads k (h.graph, turn, turns);
+          }
 
-  underway_next : (start : NamedGraph) (ids : List NodeId) → Underway start g (id ∷ ids) → IfSome (node_at g id) (λ node. Turn (named_graph g) node.name (named_graph h)) → Underway start h ids
-  underway_next start ids u = underway_past start ids u.names u.typed u.are_named u.rise u.leads
-
--- In the loop over the ids
-
-pub underway_more : (start : NamedGraph) (g h : GraphValue) (ids : List NodeId) (i : ℕ) (default : NodeId) → i < length ids → Underway start g (drop i ids) → IfSome (node_at g (get_or ids i default)) (λ node. Turn (named_graph g) node.name (named_graph h)) → ((other : NodeId) → other ≢ get_or ids i default → node_at h other ≡ node_at g other) → Underway start h (drop (i + 1) ids)
+pub underway_more : (start : NamedGraph) (g h : GraphValue) (ids : List NodeId) (i : ℕ) (default : NodeId) → i < length ids → Underway start g (drop i ids) → IfSome (fin.get g.ids (get_or ids i default)) (λ name. Turn g.graph name h.graph) → ((other : NodeId) → other ≢ get_or ids i default → fin.get h.ids other ≡ fin.get g.ids other) → Underway start h (drop (i + 1) ids)
 underway_more start g h ids i default below underway turned others =
     rw add-one (underway_next g h (get_or ids i default) others start (drop (suc i) ids) (subst (Underway start g) (drop-cons ids i default below) underway) turned)
+
+pub underway_last : (start : NamedGraph) (g : GraphValue) (ids : List NodeId) → ids ≡ [] → Underway start g ids → Turns start (fin.keys start.nodes) g.graph
+underway_last start g ids none u = at u.names (sym (ap (map (fin.get g.ids)) none) ∙ u.are_named) u.leads
+  where
+    at : (names : List Name) → [] ≡ map Some names → ((h : NamedGraph) → Turns g.graph names h → Turns start (fin.keys start.nodes) h) → Turns start (fin.keys start.nodes) g.graph
+    at [] e leads = leads g.graph refl
+    at (name ∷ names) e leads = absurd (cc)

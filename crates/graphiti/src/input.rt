@@ -1,7 +1,6 @@
 //! Reading a whole input as a graph.
 ghost use Rattle.std.specs.Prelude.{◌≡◌, ◌≢◌, ℕ, ◌+◌, ◌≤◌, Ok, Err, IfOk, IfErr};
 ghost use Rattle.gx_base.specs.Stream.{Gave, Rose};
-ghost use Rattle.graph_core.specs.GraphValue.{named_graph};
 ghost use Rattle.graph_read.specs.declared.fault.GraphRefusal.{GraphRefusal};
 ghost use Rattle.graph_read.specs.GraphReading.{graph_reading};
 ghost use Rattle.graphiti.specs.ReadBack.{CanBeRead};
@@ -21,8 +20,8 @@ const MAX_INPUT: usize = 16_777_216;
 
 /// Reads the input to its end and makes its graph. The error is the status of an input that is refused.
 pub(crate) fn read_graph<S: Source>(alloc: Global, src: &mut S) -> Result<Graph, Status>
-    ensures graph { IfOk result (λ g. ReadsGraph (named_graph g) (S.left src.old) (S.left src.new)) }
-    ensures can_be_read { IfOk result (λ g. CanBeRead (named_graph g)) }
+    ensures graph { IfOk result (λ g. ReadsGraph g.graph (S.left src.old) (S.left src.new)) }
+    ensures can_be_read { IfOk result (λ g. CanBeRead g.graph) }
     ensures other { result ≡ Err Status.NotYet → ReadsRefused Status.NotYet (S.left src.old) (S.left src.new) }
     ensures refused { (refusal : GraphRefusal) → result ≡ Err (Status.Graph refusal) → ReadsRefused (Status.Graph refusal) (S.left src.old) (S.left src.new) }
     ensures syntax { (at : ℕ) → result ≡ Err (Status.Syntax at) → ReadsRefused (Status.Syntax at) (S.left src.old) (S.left src.new) }
@@ -42,8 +41,8 @@ pub(crate) fn read_graph<S: Source>(alloc: Global, src: &mut S) -> Result<Graph,
 
 /// The graph of a whole input: its document is judged whole, and then what stands behind it.
 fn graph_in(alloc: Global, bytes: &[u8]) -> Result<Graph, Status>
-    ensures graph { IfOk result (λ g. IsInputOf (named_graph g) bytes.now) }
-    ensures can_be_read { IfOk result (λ g. CanBeRead (named_graph g)) }
+    ensures graph { IfOk result (λ g. IsInputOf g.graph bytes.now) }
+    ensures can_be_read { IfOk result (λ g. CanBeRead g.graph) }
     ensures other { result ≡ Err Status.NotYet → IsNotYet bytes.now }
     ensures refused { (refusal : GraphRefusal) → result ≡ Err (Status.Graph refusal) → IsGraphFault bytes.now refusal }
     ensures syntax { (at : ℕ) → result ≡ Err (Status.Syntax at) → FaultAt bytes.now at }
@@ -66,7 +65,7 @@ fn graph_in(alloc: Global, bytes: &[u8]) -> Result<Graph, Status>
 
 /// The graph of a document.
 fn graph_of_document(alloc: Global, document: &Doc) -> Result<Graph, Status>
-    ensures graph { IfOk result (λ g. graph_reading document.now ≡ Ok (named_graph g)) }
+    ensures graph { IfOk result (λ g. graph_reading document.now ≡ Ok g.graph) }
     ensures refused { IfErr result (IsDocumentRefused document.now) }
 {
     if has_pure(document) {

@@ -9,7 +9,7 @@ ghost use Rattle.graphiti.specs.Behaviour.{StrippedDrains, StrippedIsRefined, St
 use dot_text::{
     one_document, printed_document_is_utf8, printed_document_stands, standing_document_prints,
 };
-use components::ports_are_shapes;
+use components::{ports_are_shapes, words_read_back};
 use graph_read::{numbers_read_back, read_graphs_are_typed, rows_are_met, rows_read_back};
 use circuits::{
     buffer_keeps_drains, graph_buffer_shows_nothing, graph_typed_as_circuit, refines_in_steps,
@@ -23,6 +23,7 @@ use port_types::{reads_back, reads_ports};
 pub fn canonical_document_reads_back()
     ensures { CanonicalReadsBack }
 {
+    words_read_back();
     ports_are_shapes();
     reads_ports();
     reads_back();

@@ -1,7 +1,6 @@
 //! From the words of the command line and the streams to a status.
 ghost use Rattle.std.specs.Prelude.{◌≡◌, ◌≢◌, ℕ, ◌⊎◌, ◌+◌, ◌≤◌, ◌↔◌, None, Some, IfSome, IfOk, length};
 ghost use Rattle.gx_base.specs.Stream.{after, Gave, Rose};
-ghost use Rattle.graph_core.specs.GraphValue.{named_graph};
 ghost use Rattle.graphiti.specs.declared.words.Command.TheVariants.{Later};
 ghost use Rattle.graphiti.specs.Status.{line_of};
 ghost use Rattle.graph_read.specs.declared.fault.GraphRefusal.{GraphRefusal};
@@ -151,10 +150,10 @@ fn answer_input<S: Source, O: Sink>(
 /// Writes the command's answer for a graph.
 fn respond<O: Sink>(alloc: Global, command: Command, g: Graph, out: &mut O) -> Status
     requires reads { Reads (Some command) }
-    requires can_be_read { CanBeRead (named_graph g) }
-    ensures done { result ≡ Status.Done → WritesAll command (named_graph g) (O.taken out.old) (O.taken out.new) }
+    requires can_be_read { CanBeRead g.graph }
+    ensures done { result ≡ Status.Done → WritesAll command g.graph (O.taken out.old) (O.taken out.new) }
     ensures write_fault { result ≡ Status.WriteFault → Rose (O.faults out.old) (O.faults out.new)
-        × WritesFront command (named_graph g) (O.taken out.old) (O.taken out.new) }
+        × WritesFront command g.graph (O.taken out.old) (O.taken out.new) }
     ensures no_other { result ≢ Status.Done → result ≢ Status.WriteFault → (result ≡ Status.NoMemory) × (out.new ≡ out.old) }
     ensures counts { O.faults out.old ≤ O.faults out.new }
 {
@@ -170,8 +169,8 @@ fn respond<O: Sink>(alloc: Global, command: Command, g: Graph, out: &mut O) -> S
 /// The text of the command's answer for a graph.
 fn answer_text(alloc: Global, command: Command, g: Graph) -> Result<Vec<u8>, NoMemory>
     requires reads { Reads (Some command) }
-    requires can_be_read { CanBeRead (named_graph g) }
-    ensures { IfOk result (λ text. IsAnswer command (named_graph g) text.items) }
+    requires can_be_read { CanBeRead g.graph }
+    ensures { IfOk result (λ text. IsAnswer command g.graph text.items) }
 {
     match command {
         Command::Print => text_read_back(alloc, &g),
@@ -182,8 +181,8 @@ fn answer_text(alloc: Global, command: Command, g: Graph) -> Result<Vec<u8>, NoM
 
 /// The text of the stripped graph.
 fn stripped_text(alloc: Global, g: Graph) -> Result<Vec<u8>, NoMemory>
-    requires { CanBeRead (named_graph g) }
-    ensures { IfOk result (λ text. IsTextOfStripped (named_graph g) text.items) }
+    requires { CanBeRead g.graph }
+    ensures { IfOk result (λ text. IsTextOfStripped g.graph text.items) }
 {
     stripped_can_be_read();
     let stripped = strip(alloc, g)?;
@@ -193,8 +192,8 @@ fn stripped_text(alloc: Global, g: Graph) -> Result<Vec<u8>, NoMemory>
 
 /// The canonical text of a graph that can be read: it is an input of this graph and of no other.
 fn text_read_back(alloc: Global, g: &Graph) -> Result<Vec<u8>, NoMemory>
-    requires { CanBeRead (named_graph g.now) }
-    ensures { IfOk result (λ text. IsTextOf (named_graph g.now) text.items) }
+    requires { CanBeRead g.now.graph }
+    ensures { IfOk result (λ text. IsTextOf g.now.graph text.items) }
 {
     text_reads_back();
     print_of_print();

@@ -2,14 +2,13 @@
 ghost use Rattle.std.specs.Prelude.{◌≡◌, ◌≢◌, IfOk, OnOk, IfSome, IfNone};
 ghost use Rattle.std.specs.FinMap as map_of;
 ghost use Rattle.components.specs.NamedGraph.{IsTyped};
-ghost use Rattle.graph_core.specs.GraphValue.{named_graph, node_at};
+ghost use Rattle.graph_core.specs.GraphValue.{AreInOrder};
 ghost use Rattle.circuits.specs.Circuit.{circuit_of};
 ghost use Rattle.circuits.specs.Refines.{Refines};
 ghost use Rattle.graphiti.specs.Behaviour.{KeepsDrains};
 ghost use Rattle.graphiti.specs.Stripped.{IsStripped, OnlyRingsAreLeft};
 ghost use Rattle.graphiti.specs.Strips.{Drops, StaysAtTurn, Turn, Turns};
 ghost use Rattle.graphiti.specs.Bypass.{IsFedBuffer};
-ghost use Rattle.graph_core.specs.GraphValue.{AreInOrder};
 
 use crate::laws::{only_rings_are_left, stripped_drains, stripped_refines};
 use components::Kind;
@@ -21,12 +20,12 @@ use std::alloc::Global;
 /// itself. In no surrounding circuit does it show anything that the graph does not. The Buffers are dropped in byte order of their
 /// names, each unless it is wired to itself at its turn. The only error is want of memory; the graph is then given up.
 pub fn strip(alloc: Global, mut g: Graph) -> Result<Graph, NoMemory>
-    requires { IsTyped (named_graph g) }
-    ensures stripped { IfOk result (λ stripped. IsStripped (named_graph g) (named_graph stripped)) }
-    ensures rings { IfOk result (λ stripped. OnlyRingsAreLeft (named_graph stripped)) }
-    ensures typed { IfOk result (λ stripped. IsTyped (named_graph stripped)) }
-    ensures refines { IfOk result (λ stripped. Refines (circuit_of (named_graph stripped)) (circuit_of (named_graph g))) }
-    ensures drains { IfOk result (λ stripped. KeepsDrains (named_graph stripped) (named_graph g)) }
+    requires { IsTyped g.graph }
+    ensures stripped { IfOk result (λ stripped. IsStripped g.graph stripped.graph) }
+    ensures rings { IfOk result (λ stripped. OnlyRingsAreLeft stripped.graph) }
+    ensures typed { IfOk result (λ stripped. IsTyped stripped.graph) }
+    ensures refines { IfOk result (λ stripped. Refines (circuit_of stripped.graph) (circuit_of g.graph)) }
+    ensures drains { IfOk result (λ stripped. KeepsDrains stripped.graph g.graph) }
 {
     only_rings_are_left();
     stripped_refines();
@@ -38,9 +37,9 @@ pub fn strip(alloc: Global, mut g: Graph) -> Result<Graph, NoMemory>
 
 /// Gives each node its turn, in the order of the ids.
 fn drop_buffers(g: &mut Graph, ids: &[NodeId]) -> Result<(), NoMemory>
-    requires typed { IsTyped (named_graph g.old) }
+    requires typed { IsTyped g.old.graph }
     requires order { AreInOrder g.old ids.now }
-    ensures { OnOk result (Turns (named_graph g.old) (map_of.keys (named_graph g.old).nodes) (named_graph g.new)) }
+    ensures { OnOk result (Turns g.old.graph (map_of.keys g.old.graph.nodes) g.new.graph) }
 {
     for id in ids {
         drop_buffer(g, *id)?;
@@ -50,9 +49,9 @@ fn drop_buffers(g: &mut Graph, ids: &[NodeId]) -> Result<(), NoMemory>
 
 /// Drops the node if it is a Buffer that is not wired to itself: what fed it then feeds what it fed.
 fn drop_buffer(g: &mut Graph, id: NodeId) -> Result<(), NoMemory>
-    requires { IsTyped (named_graph g.old) }
-    ensures turn { OnOk result (IfSome (node_at g.old id) (λ node. Turn (named_graph g.old) node.name (named_graph g.new))) }
-    ensures others { OnOk result ((other : NodeId) → other ≢ id → node_at g.new other ≡ node_at g.old other) }
+    requires { IsTyped g.old.graph }
+    ensures turn { OnOk result (IfSome (map_of.get g.old.ids id) (λ name. Turn g.old.graph name g.new.graph)) }
+    ensures others { OnOk result ((other : NodeId) → other ≢ id → map_of.get g.new.ids other ≡ map_of.get g.old.ids other) }
 {
     match buffer_source(g, id) {
         Some(source) => bypass(g, id, source),
@@ -62,10 +61,11 @@ fn drop_buffer(g: &mut Graph, id: NodeId) -> Result<(), NoMemory>
 
 /// What feeds the node, where it is a Buffer that is not wired to itself.
 fn buffer_source(g: &Graph, id: NodeId) -> Option<PortAt>
-    requires { IsTyped (named_graph g.now) }
+    requires { IsTyped g.now.graph }
     ensures fed { IfSome result (IsFedBuffer g.now id) }
-    ensures stays { IfNone result (IfSome (node_at g.now id) (λ node. StaysAtTurn (named_graph g.now) node.name)) }
+    ensures stays { IfNone result (IfSome (map_of.get g.now.ids id) (StaysAtTurn g.now.graph)) }
 {
+    g.is_graph();
     let Kind::Buffer(_) = g.node(id)?.kind else {
         return None;
     };
@@ -79,10 +79,10 @@ fn buffer_source(g: &Graph, id: NodeId) -> Option<PortAt>
 
 /// Takes the Buffer out, and joins what fed it to what it fed.
 fn bypass(g: &mut Graph, id: NodeId, source: PortAt) -> Result<(), NoMemory>
-    requires typed { IsTyped (named_graph g.old) }
+    requires typed { IsTyped g.old.graph }
     requires fed { IsFedBuffer g.old id source }
-    ensures dropped { OnOk result (IfSome (node_at g.old id) (λ node. Drops (named_graph g.old) node.name (named_graph g.new))) }
-    ensures others { OnOk result ((other : NodeId) → other ≢ id → node_at g.new other ≡ node_at g.old other) }
+    ensures dropped { OnOk result (IfSome (map_of.get g.old.ids id) (λ name. Drops g.old.graph name g.new.graph)) }
+    ensures others { OnOk result ((other : NodeId) → other ≢ id → map_of.get g.new.ids other ≡ map_of.get g.old.ids other) }
 {
     // Each output of a typed graph stands on a wire.
     let Some(target) = g.wire_from(first_port(id)) else {

@@ -1,4 +1,4 @@
-use Rattle.std.proofs.Common.{◌≡◌, List, Ok, sym, subst, rules}
+use Rattle.std.proofs.Common.{◌≡◌, List, [], Ok, sym, subst, rules}
 use Rattle.dot_text.specs.declared.doc.DocNode.{DocNode}
 use Rattle.dot_text.specs.declared.doc.DocEdge.{DocEdge}
 use Rattle.components.specs.Name.{Name}
@@ -18,7 +18,8 @@ returns-in_err-check_open-clause-refused c =
     let wired = subst (λ (es : List DocEdge). edges_reading c.in_ok-g.g.graph 1 es ≡ Ok c.add_edges.new.g.graph) c.as_slice-2.ensures c.in_ok-add_edges.ensures.ok in
     let are = are_nodes doc read.0 are_read c.in_ok-g.g is c.add_edges.new.g wired c.in_ok-add_edges.ensures.ids in
     let refused = open_refused doc read.0 are_read c.in_ok-g.g is c.add_edges.new.g wired c.in_ok-add_edges.ensures.ids in
-    ?
+    let told = refused _ (c.in_err-check_open.ensures.refused read.0 are) in
+    search rules
 
 pub returns-clause-graph : goal.returns-clause-graph
 returns-clause-graph c =

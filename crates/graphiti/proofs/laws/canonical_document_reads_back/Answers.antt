@@ -5,6 +5,7 @@ use Rattle.graphiti.proofs.laws.canonical_document_reads_back.Goals as goal
 pub returns : goal.returns
 returns c =
     canonical_reads_back (record {
+      words = c.words_read_back.ensures;
       shapes = c.ports_are_shapes.ensures;
       says = c.reads_ports.ensures;
       back = c.reads_back.ensures;
