@@ -11,3 +11,4 @@ pub mod Denoting
 pub mod Inside
 pub mod Arena
 pub mod Open
+pub mod Within

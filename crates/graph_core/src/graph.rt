@@ -4,11 +4,12 @@ ghost use Rattle.std.specs.FinMap as finite;
 ghost use Rattle.components.specs.Name.{Name, Port};
 ghost use Rattle.components.specs.Node.{NodeOk};
 ghost use Rattle.components.specs.NamedGraph.{CanWire};
-ghost use Rattle.graph_core.specs.GraphValue.{Denotes, IsGraph, IsNodeAt, no_nodes, port_of, with_id, with_link, without_id};
+ghost use Rattle.graph_core.specs.GraphValue.{AreInOrder, Denotes, IsGraph, IsNodeAt, no_nodes, port_of, with_id, with_link, without_id};
 ghost use Rattle.graph_core.specs.Place.{id_of};
 ghost use Rattle.graph_core.specs.Wiring.{Refuses};
 
 use crate::arena::{end, link, put, take, try_link};
+use crate::by_name::ids_by_name;
 use crate::cells::Cells;
 use crate::names::Names;
 use crate::place::{NodeId, PortAt};
@@ -162,6 +163,13 @@ impl Graph {
         let id = NodeId::new(index);
         self.node(id)?;
         Some(id)
+    }
+
+    /// The ids of the live nodes in the byte order of their names. The only error is want of memory.
+    pub fn by_name(&self, alloc: Global) -> Result<Vec<NodeId>, NoMemory>
+        ensures { IfOk result (λ ids. AreInOrder self.now ids.items) }
+    {
+        ids_by_name(alloc, self)
     }
 
     /// The same graph again, with the same ids. The only error is want of memory.

@@ -5,13 +5,16 @@
 #![tactic(auto)]
 
 mod arena;
+mod by_name;
 mod cells;
 mod ends;
 mod graph;
 mod names;
 mod open;
 mod place;
+mod same;
 
 pub use graph::{AddNode, AddWire, Graph, PortOpen};
 pub use open::check_typed;
 pub use place::{NodeId, PortAt};
+pub use same::same_graph;
