@@ -12,8 +12,8 @@ ghost use Rattle.graph_print.specs.DocumentParts.{node_entries_at, edge_entries_
 
 use crate::edge_entry::edge_entry;
 use crate::node_entry::node_entry;
-use dot_text::{Doc, DocEdge, DocNode};
 use components::{Node, inputs};
+use dot_text::{Doc, DocEdge, DocNode};
 use graph_core::{Graph, NodeId, PortAt};
 use port_types::{Items, NoMemory};
 use std::alloc::Global;

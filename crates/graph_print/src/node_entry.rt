@@ -8,8 +8,8 @@ use crate::kept::push_kept;
 use crate::kinds::push_own;
 use crate::ports::push_side;
 use crate::texts::{push_pair, text_from};
-use dot_text::DocNode;
 use components::{Node, component_at, word_of};
+use dot_text::DocNode;
 use port_types::{Items, NoMemory, Side, Text};
 use std::alloc::Global;
 

@@ -1,7 +1,6 @@
 //! The canonical text of a graph.
 
 ghost use Rattle.std.specs.Prelude.{◌≡◌, IfOk};
-ghost use Rattle.graph_core.specs.GraphValue.{named_graph};
 ghost use Rattle.graph_print.specs.CanonicalText.{text_of};
 
 use crate::document::document_of;

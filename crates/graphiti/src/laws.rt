@@ -6,15 +6,15 @@ ghost use Rattle.graphiti.specs.Stripped.{HasStripped, IsOneStripped, StrippedLe
 ghost use Rattle.graphiti.specs.Strips.{TurnsEnd, TurnsStrip};
 ghost use Rattle.graphiti.specs.Behaviour.{StrippedDrains, StrippedIsRefined, StrippedRefines, StrippedTyped};
 
-use dot_text::{
-    one_document, printed_document_is_utf8, printed_document_stands, standing_document_prints,
-};
-use components::{ports_are_shapes, words_read_back};
-use graph_read::{numbers_read_back, read_graphs_are_typed, rows_are_met, rows_read_back};
 use circuits::{
     buffer_keeps_drains, graph_buffer_shows_nothing, graph_typed_as_circuit, refines_in_steps,
     refines_itself,
 };
+use components::{ports_are_shapes, words_read_back};
+use dot_text::{
+    one_document, printed_document_is_utf8, printed_document_stands, standing_document_prints,
+};
+use graph_read::{numbers_read_back, read_graphs_are_typed, rows_are_met, rows_read_back};
 use port_types::{reads_back, reads_ports};
 
 // Reading back
