@@ -9,7 +9,7 @@ use Rattle.graph_core.specs.declared.cells.Cell.{Cell}
 use Rattle.graph_core.specs.declared.cells.Slot.{Slot}
 use Rattle.graph_core.specs.declared.cells.Slot.TheVariants.{Live, Free}
 use Rattle.graph_core.specs.Place.{id_of, id_cmp}
-use Rattle.graph_core.specs.Cells.{CellsValue, cell_with, without_cell, put_end}
+use Rattle.graph_core.specs.Cells.{IsNext, CellsValue, cell_with, without_cell, put_end}
 use Rattle.graph_core.specs.Slots.{cell_in, next_in, live_from, shown, IsChain, IsChained, put_end_in}
 use Rattle.components.specs.Lookups.{same_test, other_test, get_inserted, get_not_inserted, get_removed, get_not_removed}
 use Rattle.graph_core.specs.Ids.{id_total, id_same, id_cases}
@@ -128,6 +128,7 @@ no_chain slots (suc n) p = absurd (none-some _ p.2)
 pub record Added (old new : List Slot) (from : Option ℕ) (id : NodeId) (cell : Cell) : Type 0 where
   pub chained : IsChained new from
   pub vacant : map.get (shown old).cells id ≡ None
+  pub next : IsNext (shown old) id
   pub cells : (shown new).cells ≡ map.insert (shown old).cells id cell
   pub slots : length new ≡ max (length old) (map.len (shown new).cells)
 
@@ -148,6 +149,7 @@ pushed slots from cell old none =
     let total : map.len (shown slots).cells + old.free ≡ length slots = old.total in
     record {
       chained = record { free = 0; total = omega arith; chain = none };
+      next = λ full. refl;
       vacant = vacant;
       cells = cells;
       slots = omega arith;
@@ -176,6 +178,7 @@ filled slots i next cell from old is found = by_count old.free old.total old.cha
         let long : length (slice_set slots i (Live cell)) ≡ length slots = length-set slots i (Live cell) in
         record {
           chained = record { free = n; total = omega arith; chain = chain_kept slots (slice_set slots i (Live cell)) i others n next off rest };
+          next = λ full. absurd (omega (arith, total, full));
           vacant = vacant;
           cells = cells;
           slots = omega arith;

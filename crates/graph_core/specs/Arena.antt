@@ -14,11 +14,12 @@ use Rattle.graph_core.specs.declared.place.PortAt.{PortAt}
 use Rattle.graph_core.specs.declared.cells.Cell.{Cell}
 use Rattle.graph_core.specs.Ends.{EndList}
 use Rattle.graph_core.specs.Names.{IdsByName}
-use Rattle.graph_core.specs.Cells.{CellsValue, bare, with_end, without_cell}
+use Rattle.graph_core.specs.Cells.{CellsValue, IsNext, bare, with_end, without_cell}
 
 -- the node stands in a new cell under this id, with no wire at its ports, and is listed
 pub record IsPut (c : CellsValue) (table : IdsByName) (id : NodeId) (node : Node) (d : CellsValue) (list : IdsByName) : Type 0 where
   pub vacant : map.get c.cells id ≡ None
+  pub next : IsNext c id
   pub cells : d.cells ≡ map.insert c.cells id (bare node)
   pub slots : d.slots ≡ max c.slots (map.len d.cells)
   pub names : list ≡ map.insert table node.name id

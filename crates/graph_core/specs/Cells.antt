@@ -1,5 +1,5 @@
 -- Nodes by id, with what stands at the other ends of their ports.
-use Rattle.std.specs.Prelude.{ℕ, Option, Some, None, length, replicate, refl}
+use Rattle.std.specs.Prelude.{◌≡◌, ℕ, Option, Some, None, length, replicate, refl}
 use Rattle.std.specs.FinMap as map
 use Rattle.std.specs.Coded.{Coded, code_by, coded×, coded_ℕ}
 use Rattle.port_types.specs.declared.side.Side.{Side}
@@ -11,7 +11,7 @@ use Rattle.graph_core.specs.declared.place.PortAt.{PortAt}
 use Rattle.graph_core.specs.declared.cells.Cell.{Cell}
 use Rattle.graph_core.specs.contracts.place.NodeId as node_id
 use Rattle.graph_core.specs.contracts.cells.Cell as cell
-use Rattle.graph_core.specs.Place.{id_cmp}
+use Rattle.graph_core.specs.Place.{id_cmp, index_of}
 use Rattle.graph_core.specs.Ends.{EndList, with_end_of}
 
 -- the cell of each live node by its id, and how many slots there are
@@ -22,6 +22,10 @@ pub record CellsValue : Type 0 where
 abbrev pub cells_code : Coded CellsValue
 cells_code =
     code_by (map.FinMap id_cmp Cell × ℕ) (coded× (map.code node_id.the_row.coded cell.the_row.coded) coded_ℕ) (λ c. (c.cells, c.slots)) (λ p. record { cells = p.0; slots = p.1 }) (λ _. refl)
+
+-- the id of a cell that is put in: where each slot has a cell, that of a new slot behind all others
+abbrev pub IsNext : CellsValue → NodeId → Type 0
+IsNext c id = map.len c.cells ≡ c.slots → index_of id ≡ c.slots
 
 -- a node with no wire at its ports
 abbrev pub bare : Node → Cell

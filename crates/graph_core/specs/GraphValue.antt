@@ -50,6 +50,10 @@ AreInOrder g ids = map (finite.get g.ids) ids ≡ map Some (finite.keys g.graph.
 abbrev pub no_nodes : GraphValue
 no_nodes = record { graph = no_graph; ids = finite.empty; slots = 0 }
 
+-- the id of a node that is added: where each slot has a node, that of a new slot behind all others
+abbrev pub IsNextOf : GraphValue → NodeId → Type 0
+IsNextOf g id = finite.len g.ids ≡ g.slots → index_of id ≡ g.slots
+
 -- with a node under this id; slots are no more than the most nodes that were live at once
 abbrev pub with_id : GraphValue → NodeId → Node → GraphValue
 with_id g id node =

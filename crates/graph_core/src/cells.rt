@@ -4,7 +4,7 @@ ghost use Rattle.std.specs.Option.{option_copied};
 ghost use Rattle.std.specs.FinMap as map_of;
 ghost use Rattle.graph_core.specs.declared.place.NodeId.{NodeId};
 ghost use Rattle.graph_core.specs.declared.cells.Cell.{Cell};
-ghost use Rattle.graph_core.specs.Cells.{bare, cell_with, ends, with_end, without_cell};
+ghost use Rattle.graph_core.specs.Cells.{IsNext, bare, cell_with, ends, with_end, without_cell};
 ghost use Rattle.components.specs.Kind.{KindOk};
 ghost use Rattle.graph_core.specs.Ends.{end_of};
 ghost use Rattle.graph_core.specs.Place.{id_of, index_of};
@@ -164,6 +164,7 @@ impl Cells {
     pub(crate) fn insert(&mut self, cell: Cell) -> Result<NodeId, Cell>
         ensures back { IfErr result (λ back. back ≡ cell) }
         ensures vacant { IfOk result (λ id. map_of.get self.old.cells id ≡ None) }
+        ensures next { IfOk result (IsNext self.old) }
         ensures cells { IfOk result (λ id. self.new.cells ≡ map_of.insert self.old.cells id cell) }
         ensures slots { OnOk result (self.new.slots ≡ max self.old.slots (map_of.len self.new.cells)) }
         ensures err { OnErr result (self.new ≡ self.old) }

@@ -4,7 +4,7 @@ ghost use Rattle.std.specs.FinMap as finite;
 ghost use Rattle.components.specs.Name.{Name, Port};
 ghost use Rattle.components.specs.Node.{NodeOk};
 ghost use Rattle.components.specs.NamedGraph.{CanWire};
-ghost use Rattle.graph_core.specs.GraphValue.{AreInOrder, Denotes, IsGraph, IsNodeAt, no_nodes, port_of, with_id, with_link, without_id};
+ghost use Rattle.graph_core.specs.GraphValue.{AreInOrder, Denotes, IsGraph, IsNextOf, IsNodeAt, no_nodes, port_of, with_id, with_link, without_id};
 ghost use Rattle.graph_core.specs.Place.{id_of};
 ghost use Rattle.graph_core.specs.Wiring.{Refuses};
 
@@ -84,6 +84,7 @@ impl Graph {
         requires { NodeOk node }
         ensures ok { IfOk result (λ id. self.new ≡ with_id self.old id node) }
         ensures fresh { IfOk result (λ id. finite.get self.old.ids id ≡ None) }
+        ensures next { IfOk result (IsNextOf self.old) }
         ensures taken { (result ≡ Err AddNode.NameTaken) ↔ IsSome (finite.get self.old.graph.nodes node.name) }
         ensures err { OnErr result (self.new ≡ self.old) }
     {

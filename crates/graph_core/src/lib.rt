@@ -13,6 +13,8 @@ mod names;
 mod open;
 mod place;
 mod same;
+#[cfg(test)]
+mod tests;
 
 pub use graph::{AddNode, AddWire, Graph, PortOpen};
 pub use open::check_typed;

@@ -34,6 +34,7 @@ returns-in-Ok-clause-ok c =
     let in_ok = (goal.at.returns-in-Ok-clause-ok c).In-Ok in
     record {
       vacant = c.in-Ok.ensures.vacant;
+      next = c.in-Ok.ensures.next;
       cells = celled in_ok ∙ ap (finite.insert c.args.cells.now.cells c.in-Ok.id) (bare_cell at);
       slots = c.in-Ok.ensures.slots;
       names = c.list.ensures ∙ (λ i. listed_at (named at i) c.in-Ok.id (finite.get (celled in_ok i) c.in-Ok.id))

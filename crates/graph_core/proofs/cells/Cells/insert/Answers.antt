@@ -1,6 +1,7 @@
 use Rattle.std.proofs.Common.{◌≡◌, ◌∙◌, ◌∷◌, ◌++◌, [], length, max, slice_get, slice_set, rules, subst, sym, ap}
 use Rattle.std.specs.FinMap as map_of
 use Rattle.graph_core.specs.declared.cells.Slot.TheVariants.{Live}
+use Rattle.graph_core.specs.Cells.{IsNext}
 use Rattle.graph_core.specs.Place.{id_of}
 use Rattle.graph_core.specs.Slots.{shown, next_in}
 use Rattle.graph_core.proofs.SlotLemmas.{Added, pushed, filled_next, stands}
@@ -18,6 +19,9 @@ invariant_of-self-in-None c = (behind c).chained
 
 pub returns-in_ok-push_cell-in-None-clause-vacant : goal.returns-in_ok-push_cell-in-None-clause-vacant
 returns-in_ok-push_cell-in-None-clause-vacant c = ap (λ v. map_of.get v.cells c.new.result) (sym c.self.view_is) ∙ (behind c).vacant
+
+pub returns-in_ok-push_cell-in-None-clause-next : goal.returns-in_ok-push_cell-in-None-clause-next
+returns-in_ok-push_cell-in-None-clause-next c = subst (λ v. IsNext v c.new.result) c.self.view_is (behind c).next
 
 pub returns-in_ok-push_cell-in-None-clause-cells : goal.returns-in_ok-push_cell-in-None-clause-cells
 returns-in_ok-push_cell-in-None-clause-cells c = (behind c).cells ∙ ap (λ v. map_of.insert v.cells c.new.result c.args.cell) c.self.view_is
@@ -37,6 +41,9 @@ invariant_of-self-in-Some c = (within c).chained
 
 pub returns-in-Some-clause-vacant : goal.returns-in-Some-clause-vacant
 returns-in-Some-clause-vacant c = ap (λ v. map_of.get v.cells c.new-in-Some.result) (sym c.self.view_is) ∙ (within c).vacant
+
+pub returns-in-Some-clause-next : goal.returns-in-Some-clause-next
+returns-in-Some-clause-next c = subst (λ v. IsNext v c.new-in-Some.result) c.self.view_is (within c).next
 
 pub returns-in-Some-clause-cells : goal.returns-in-Some-clause-cells
 returns-in-Some-clause-cells c = (within c).cells ∙ ap (λ v. map_of.insert v.cells c.new-in-Some.result c.args.cell) c.self.view_is

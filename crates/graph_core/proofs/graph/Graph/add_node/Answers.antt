@@ -1,11 +1,12 @@
-use Rattle.std.proofs.Common.{◌≡◌, ◌∙◌, None, is_some, true, false, rules, refl, sym, ap, true≢false}
+use Rattle.std.proofs.Common.{◌≡◌, ◌∙◌, None, is_some, true, false, rules, refl, sym, ap, subst, true≢false}
 use Rattle.std.specs.Option.{option_map}
 use Rattle.std.specs.FinMap as finite
 use Rattle.graph_core.proofs.Link.{none_by}
 use Rattle.graph_core.specs.declared.cells.Cell.{Cell}
 use Rattle.graph_core.specs.Arena.{IsPut}
-use Rattle.graph_core.specs.GraphValue.{with_id}
+use Rattle.graph_core.specs.GraphValue.{IsNextOf, with_id}
 use Rattle.graph_core.proofs.Standing.{name_known, dead_id}
+use Rattle.graph_core.proofs.Tables.{len-map_values}
 use Rattle.graph_core.proofs.Put.{put_ok, put_value}
 use Rattle.graph_core.proofs.graph.Graph.add_node.Goals as goal
 use Rattle.graph_core.proofs.graph.Graph.add_node.Goals.{Else-is_some, In-Ok}
@@ -43,3 +44,8 @@ returns-clause-ok c =
 
 pub returns-clause-fresh : goal.returns-clause-fresh
 returns-clause-fresh c = ap (λ v. finite.get v.ids c.in-Ok.id) (sym c.self.view_is) ∙ dead_id c.self.inside.cells c.in-Ok.id (ap (option_map (λ (cell : Cell). cell.node)) (is_put c).vacant)
+
+pub returns-clause-next : goal.returns-clause-next
+returns-clause-next c =
+    subst (λ v. IsNextOf v c.in-Ok.id) c.self.view_is
+    (λ full. (is_put c).next (sym (len-map_values (λ (cell : Cell). cell.node.name) c.self.inside.cells.cells) ∙ full))

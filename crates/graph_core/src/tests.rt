@@ -1,0 +1,80 @@
+//! Worked graphs.
+ghost use Rattle.std.specs.Prelude.{IfOk};
+ghost use Rattle.components.specs.Node.{NodeOk};
+
+use crate::{Graph, NodeId, PortAt, check_typed, same_graph};
+use components::{Kind, Node, is_name, kind_ok};
+use port_types::{Items, Shape, Text};
+use std::alloc::Global;
+use std::test::Fail;
+
+fn byte(alloc: Global) -> Result<Shape, Fail> {
+    Ok(Shape::new(vec![in alloc; 8]?).ok_or("no shape")?)
+}
+
+/// A node without kept attributes.
+fn node(alloc: Global, name: &str, kind: Kind) -> Result<Node, Fail>
+    ensures { IfOk result NodeOk }
+{
+    let name = Text::new(name.as_bytes().to_vec(alloc)?).ok_or("no text")?;
+    if !is_name(&name) || !kind_ok(&kind) {
+        return Err("no node".into());
+    }
+    let kept = Items::new(Vec::new(alloc));
+    Ok(Node { name, kind, kept })
+}
+
+fn add(g: &mut Graph, alloc: Global, name: &str, kind: Kind) -> Result<NodeId, Fail> {
+    let node = node(alloc, name, kind)?;
+    Ok(g.add_node(node).ok().ok_or("not added")?)
+}
+
+fn first(node: NodeId) -> PortAt {
+    PortAt { node, port: 1 }
+}
+
+/// Entry, Buffer and Exit in a row, whose names stand in another order.
+fn row(alloc: Global) -> Result<Graph, Fail> {
+    let mut g = Graph::new(alloc);
+    let entry = add(&mut g, alloc, "a2", Kind::Entry(byte(alloc)?))?;
+    let buffer = add(&mut g, alloc, "b", Kind::Buffer(byte(alloc)?))?;
+    let exit = add(&mut g, alloc, "a10", Kind::Exit(byte(alloc)?))?;
+    g.add_wire(first(entry), first(buffer))
+        .ok()
+        .ok_or("no wire")?;
+    g.add_wire(first(buffer), first(exit))
+        .ok()
+        .ok_or("no wire")?;
+    Ok(g)
+}
+
+#[test]
+fn a_copy_is_the_same_graph(rt: HostRuntime) -> Result<(), Fail> {
+    let mut g = row(rt.alloc())?;
+    let copy = g.copy(rt.alloc())?;
+    assert!(rt; same_graph(&g, &copy) && check_typed(&copy).is_ok());
+    let ids = g.by_name(rt.alloc())?;
+    let first = *ids.first().ok_or("no id")?;
+    let exit = g.remove_node(first).ok_or("no node")?;
+    assert_eq!(rt; exit.name.as_str(), "a10");
+    assert!(rt; !same_graph(&g, &copy) && check_typed(&g).is_err());
+    Ok(())
+}
+
+#[test]
+fn a_free_slot_is_taken_first(rt: HostRuntime) -> Result<(), Fail> {
+    let alloc = rt.alloc();
+    let mut g = row(alloc)?;
+    let buffer = g.find(b"b".as_slice()).ok_or("no node")?;
+    let _ = g.remove_node(buffer);
+    let fork = add(&mut g, alloc, "c", Kind::Fork(byte(alloc)?, 2))?;
+    assert_eq!(rt; fork.index(), 1);
+    assert_eq!(rt; g.slots(), 3);
+    let ids = g.by_name(alloc)?;
+    assert_eq!(rt;
+        ids.as_slice(),
+        [NodeId::new(2), NodeId::new(0), NodeId::new(1)].as_slice()
+    );
+    assert!(rt; g.wire_into(first(fork)).is_none());
+    Ok(())
+}
