@@ -24,7 +24,7 @@ returns-in-Ok-add_node c = λ nodes are.
       few = c.in-Ok.ensures.few;
       is_new = c.in-Ok-add_node.ensures.ok;
       is_fresh = c.in-Ok-add_node.ensures.fresh;
-      is_next = ?;
+      is_next = c.in-Ok-add_node.ensures.next;
       no_other = search rules;
     }
 
