@@ -1,5 +1,5 @@
 -- The graph of a document from its parts: the nodes, the wires, and no open port.
-use Rattle.std.proofs.Common.{◌≡◌, List, [], Option, Some, None, Ok, Err, sym, ap, subst, ◌∙◌}
+use Rattle.std.proofs.Common.{◌≡◌, List, [], None, Ok, sym, ap, ◌∙◌}
 use Rattle.std.specs.FinMap as finite
 use Rattle.dot_text.specs.declared.doc.Doc.{Doc}
 use Rattle.components.specs.Name.{Name, name_cmp}
@@ -9,8 +9,7 @@ use Rattle.graph_core.specs.Place.{id_of}
 use Rattle.graph_core.specs.GraphValue.{GraphValue, Ids}
 use Rattle.graph_read.specs.declared.fault.GraphFault.{GraphFault}
 use Rattle.graph_read.specs.declared.fault.GraphFault.TheVariants.{Refused, NoMemory}
-use Rattle.graph_read.specs.declared.fault.GraphRefusal.{GraphRefusal}
-use Rattle.graph_read.specs.GraphReading.{GraphReading, NodesReading, nodes_reading, edges_reading, first_open, graph_of_nodes, unless, closed, wired, graph_reading}
+use Rattle.graph_read.specs.GraphReading.{nodes_reading, edges_reading, first_open, graph_of_nodes, unless, closed, wired, graph_reading}
 use Rattle.graph_read.specs.GraphSteps.{AreNodesOf, IsReadTo}
 use Rattle.graph_read.specs.Refusals.{IsRefusal, IsFoundRefusal}
 use Rattle.graph_read.proofs.ReadWires.{edges_keep_nodes}

@@ -1,20 +1,19 @@
 -- The wire of an edge, by ids and by names.
-use Rattle.std.proofs.Common.{◌≡◌, ◌≢◌, ◌⊎◌, inl, inr, Bool, true, false, ◌||◌, List, [], Option, Some, None, Result, Ok, Err, is_some, unwrap_or, refl, sym, ap, ◌∙◌, codes, if◌then◌else◌}
+use Rattle.std.proofs.Common.{◌≡◌, ◌≢◌, ◌⊎◌, inl, inr, Bool, true, false, ◌||◌, [], Option, Some, None, Result, Ok, Err, unwrap_or, sym, ap, ◌∙◌, codes, if◌then◌else◌}
 use Rattle.std.specs.Prelude.{bytes_eq}
 use Rattle.std.specs.FinMap as finite
-use Rattle.std.proofs.lemmas.Bool.{false_from_ne_true, true≢false, or_left, or_right}
+use Rattle.std.proofs.lemmas.Bool.{false_from_ne_true, or_left, or_right}
 use Rattle.std.proofs.lemmas.Option.{none-some, same_Some}
 use Rattle.port_types.specs.declared.side.Side.{Side}
 use Rattle.port_types.specs.declared.side.Side.TheVariants.{Ins, Outs}
 use Rattle.dot_text.specs.declared.doc.DocEdge.{DocEdge}
-use Rattle.components.specs.Kind.{Shape, ports, ins, outs}
+use Rattle.components.specs.Kind.{Shape, ports}
 use Rattle.components.specs.Name.{Port, port_get}
 use Rattle.components.specs.Node.{Body}
 use Rattle.components.specs.NamedGraph.{NamedGraph, CanWire, is_wired}
 use Rattle.components.specs.Orders.{same_bytes, other_bytes}
 use Rattle.graph_core.specs.declared.place.NodeId.{NodeId}
 use Rattle.graph_core.specs.declared.place.PortAt.{PortAt}
-use Rattle.graph_core.specs.declared.graph.AddWire.{AddWire}
 use Rattle.graph_core.specs.declared.graph.AddWire.TheVariants as add_wire
 use Rattle.graph_core.specs.GraphValue.{GraphValue, Denotes, port_of}
 use Rattle.graph_core.specs.Wiring.{HasShape, IsWired, AreThere, Refuses}

@@ -1,5 +1,5 @@
 -- A graph without wires gains the node of the next statement.
-use Rattle.std.proofs.Common.{◌≡◌, ◌≢◌, inl, inr, ℕ, zero, suc, ◌+◌, ◌≤◌, ◌<◌, Bool, true, false, cond, List, [], ◌∷◌, ◌++◌, length, map, max, get_or, take, drop, slice_get, Option, Some, None, is_some, Ok, refl, sym, ap, subst, ◌∙◌, arith, nat_eq}
+use Rattle.std.proofs.Common.{◌≡◌, ◌≢◌, inl, inr, ℕ, zero, suc, ◌+◌, ◌≤◌, ◌<◌, false, cond, List, [], ◌∷◌, ◌++◌, length, map, max, get_or, take, drop, slice_get, Some, None, is_some, Ok, refl, sym, ap, subst, ◌∙◌, arith, nat_eq}
 use Rattle.std.specs.Option.{option_map}
 use Rattle.std.specs.FinMap as finite
 use Rattle.std.proofs.lemmas.Bool.{cases_Bool, true≢false}
@@ -11,12 +11,11 @@ use Rattle.components.specs.Name.{Name, name_cmp}
 use Rattle.components.specs.Node.{Body, body_of}
 use Rattle.components.specs.Lookups.{get_inserted, get_not_inserted}
 use Rattle.components.specs.Orders.{name_total, name_same}
-use Rattle.graph_core.specs.declared.place.NodeId.{NodeId}
 use Rattle.graph_core.specs.Place.{index_of, id_of}
-use Rattle.graph_core.specs.GraphValue.{GraphValue, no_nodes, with_id}
+use Rattle.graph_core.specs.GraphValue.{GraphValue, no_nodes}
 use Rattle.graph_read.specs.NodeReading.{NodeReading, node_reading}
 use Rattle.graph_read.specs.GraphReading.{then_read, names_of, nodes_reading}
-use Rattle.graph_read.specs.GraphSteps.{AreNodesOf, IsReadTo, StandInOrder, HasGained, IsAddedBehind}
+use Rattle.graph_read.specs.GraphSteps.{AreNodesOf, IsReadTo, StandInOrder, HasGained}
 use Rattle.graph_core.specs.Ids.{id_total, id_same}
 
 -- the statements before this one have been read, with a node and a slot for each

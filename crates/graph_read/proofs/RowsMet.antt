@@ -1,5 +1,5 @@
 -- A kind that is read meets its row.
-use Rattle.std.proofs.Common.{◌≡◌, inl, inr, ◌&&◌, ◌^◌, ◌≤◌, Bool, true, false, List, [], ◌∷◌, length, replicate, Ok, Err, refl, ap, subst, arith}
+use Rattle.std.proofs.Common.{◌≡◌, inl, inr, ◌&&◌, ◌^◌, ◌≤◌, Bool, true, false, List, [], ◌∷◌, length, replicate, Ok, refl, ap, subst, arith}
 use Rattle.std.specs.Prelude.{bytes_eq, nat_le}
 use Rattle.std.specs.List.{concat}
 use Rattle.std.proofs.lemmas.Bool.{leb-true, and_parts}
@@ -11,10 +11,9 @@ use Rattle.components.specs.declared.kind.Kind as kind
 use Rattle.components.specs.Kind.{Shape, field, AreParts}
 use Rattle.components.specs.declared.component.Component.{Component}
 use Rattle.components.specs.declared.component.Component as component
-use Rattle.graph_read.specs.declared.fault.GraphFaultKind.{GraphFaultKind}
 use Rattle.graph_read.specs.declared.fault.GraphFaultKind.TheVariants.{BadPorts}
 use Rattle.graph_read.specs.Attributes.{Pair}
-use Rattle.graph_read.specs.Rows.{Reading, where_ports, all_are, entry_at, exit_at, buffer_at, fork_at, join_at, split_at, source_at, sink_at, mux_at, branch_at, merge_at, ctrl_merge_at}
+use Rattle.graph_read.specs.Rows.{where_ports, all_are, entry_at, exit_at, buffer_at, fork_at, join_at, split_at, source_at, sink_at, mux_at, branch_at, merge_at, ctrl_merge_at}
 use Rattle.graph_read.specs.Laws.{MeetsRow, AreRead}
 use Rattle.graph_read.proofs.Answers.{same_answer, refused}
 

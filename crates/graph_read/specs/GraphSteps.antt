@@ -23,7 +23,7 @@ use Rattle.graph_read.specs.declared.fault.StatementFault.{StatementFault}
 use Rattle.graph_read.specs.declared.fault.StatementFault.TheVariants.{Refused, NoMemory}
 use Rattle.graph_read.specs.NodeReading.{NodeReading, node_reading}
 use Rattle.graph_read.specs.Refusals.{IsRefusal}
-use Rattle.graph_read.specs.GraphReading.{NamedWire, refusal, named_in, names_of, nodes_reading, port_there, wire_between, edge_reading}
+use Rattle.graph_read.specs.GraphReading.{NamedWire, refusal, named_in, names_of, port_there, wire_between, edge_reading}
 
 -- the fault of the node or edge at this place, unless memory ran out
 abbrev pub IsFaultAt : StatementFault → ℕ → Name → GraphFault → Type 0

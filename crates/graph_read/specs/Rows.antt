@@ -1,7 +1,6 @@
 -- The rows of the table of components: the kind of a node from its word, the shapes of its ports and its attributes.
-use Rattle.std.specs.Prelude.{ℕ, ◌^◌, Bool, ◌&&◌, ◌==◌, nat_le, List, [], ◌∷◌, length, Option, Some, None, Result, Ok, Err, find, bytes_eq, codes, if◌then◌else◌}
+use Rattle.std.specs.Prelude.{ℕ, ◌^◌, Bool, ◌&&◌, ◌==◌, nat_le, List, [], ◌∷◌, length, Option, Some, None, Result, Ok, Err, bytes_eq, codes, if◌then◌else◌}
 use Rattle.std.specs.List.{list_all, concat}
-use Rattle.std.specs.Option.{option_or}
 use Rattle.op_table.specs.declared.op.Op.{Op}
 use Rattle.op_table.specs.Table.{op_named, is_typed_op}
 use Rattle.port_types.specs.Tag.{tag_width}

@@ -1,4 +1,4 @@
-use Rattle.std.proofs.Common.{ℕ, List, codes, subst}
+use Rattle.std.proofs.Common.{List, codes, subst}
 use Rattle.port_types.specs.declared.side.Side.TheVariants.{Ins, Outs}
 use Rattle.graph_core.specs.GraphValue.{Denotes}
 use Rattle.graph_read.specs.Attributes.{Pair, last_value}

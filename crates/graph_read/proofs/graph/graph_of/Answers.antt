@@ -1,8 +1,6 @@
-use Rattle.std.proofs.Common.{◌≡◌, List, [], Ok, sym, subst, rules}
+use Rattle.std.proofs.Common.{◌≡◌, List, [], Ok, subst, rules}
 use Rattle.dot_text.specs.declared.doc.DocNode.{DocNode}
 use Rattle.dot_text.specs.declared.doc.DocEdge.{DocEdge}
-use Rattle.components.specs.Name.{Name}
-use Rattle.components.specs.Node.{Body}
 use Rattle.graph_read.specs.GraphReading.{nodes_reading, edges_reading}
 use Rattle.graph_read.specs.GraphSteps.{IsReadTo}
 use Rattle.graph_read.proofs.GraphParts.{open_refused, graph_closed, are_nodes}

@@ -1,5 +1,5 @@
 use Rattle.std.proofs.Common.{sym, subst}
-use Rattle.graph_read.proofs.NodeLists.{IsReadSoFar, none_read, one_more_read, all_read}
+use Rattle.graph_read.proofs.NodeLists.{IsReadSoFar, none_read, one_more_read}
 use Rattle.graph_read.proofs.nodes.read_nodes.Goals as goal
 
 pub loop-index-init : goal.loop-index-init

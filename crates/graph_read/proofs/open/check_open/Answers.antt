@@ -1,4 +1,4 @@
-use Rattle.std.proofs.Common.{◌≡◌, ◌+◌, Some, sym, ap, ◌∙◌, arith, rules}
+use Rattle.std.proofs.Common.{◌≡◌, ◌+◌, Some, ◌∙◌, arith, rules}
 use Rattle.graph_read.proofs.OpenPorts.{opened, none_open, one_open, typed_closed}
 use Rattle.graph_read.proofs.open.check_open.Goals as goal
 
