@@ -8,6 +8,7 @@ use Rattle.circuits.specs.Circuit.{Circuit, Typed}
 use Rattle.circuits.specs.Run.{Move, Shows}
 use Rattle.circuits.specs.Plug.{Link, link_all, plug, beside, or_else, Apart, Joins, CanPlug}
 use Rattle.circuits.specs.Refines.{SamePorts, Refines}
+use Rattle.circuits.specs.Laws.{WholeRefines}
 use Rattle.circuits.proofs.Lists.{each_append, each_map, each_both}
 use Rattle.circuits.proofs.Beside.{apart_none, apart_sym, kind_left}
 use Rattle.circuits.proofs.Together.{kind_of_right, or_some}
@@ -257,5 +258,15 @@ module _ (rest new old : Circuit) (ls : List Link) (tr : Typed rest) (cn : CanPl
       (r.shows around (failing (touches rest) ms ++ ls) t ty (can_around rest new ls tr r.new_typed cn c ms tc hn cr an) (can_around rest old ls tr r.old_typed co c ms tc ho cr ao)
       (subst (λ z. Shows z t) (regrouped rest new ls tr r.new_typed cn c ms tc hn cr an) sh))
 
-  pub part_refines : Refines (plug rest ls new) (plug rest ls old)
+  part_refines : Refines (plug rest ls new) (plug rest ls old)
   part_refines = refines_of_long (plug rest ls new) (plug rest ls old) whole_new whole_old part_ports bound part_shows
+
+-- what has the same Entries and Exits can be plugged in the same way
+fits_too : (c h g : Circuit) → SamePorts h g → (l : Link) → Joins l c g ⊎ Joins l g c → Joins l c h ⊎ Joins l h c
+fits_too c h g same l (inl j) = inl (record { shape = j.shape; exit = j.exit; entry = (same.entries l.entry j.shape).1 j.entry })
+fits_too c h g same l (inr j) = inr (record { shape = j.shape; exit = (same.exits l.exit j.shape).1 j.exit; entry = j.entry })
+
+pub whole_refines : WholeRefines
+whole_refines rest new old ls typed can apart refines =
+    let joins = each_map _ (λ l. Joins l rest new ⊎ Joins l new rest) (fits_too rest new old refines.ports) ls can.joins in
+    part_refines rest new old ls typed (record { apart = apart; joins = joins; once = can.once }) can refines

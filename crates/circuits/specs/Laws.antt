@@ -11,7 +11,7 @@ use Rattle.circuits.specs.State.{State, start, IsStateOf}
 use Rattle.circuits.specs.Firing.{Label, Label.Fire}
 use Rattle.circuits.specs.Run.{Step, Move, Run, Shows}
 use Rattle.circuits.specs.TaggerOrder.{tags_of, tags_given, results_given}
-use Rattle.circuits.specs.Plug.{Link, plug, CanPlug}
+use Rattle.circuits.specs.Plug.{Link, plug, Apart, CanPlug}
 use Rattle.circuits.specs.Refines.{Refines}
 use Rattle.circuits.specs.Buffers.{first_port, drop_node, CanDropBuffer, IsWithoutBuffer}
 use Rattle.circuits.specs.Root.{Root}
@@ -56,10 +56,10 @@ abbrev pub PlugIsTyped : Type 0
 PlugIsTyped = (c : Circuit) (ls : List Link) (g : Circuit) → Typed c → Typed g → CanPlug c ls g →
     Typed (plug c ls g)
 
--- a circuit refined in a part is refined
+-- a circuit refined in a part is refined, where the names of the new part are apart from those of the rest
 abbrev pub WholeRefines : Type 0
-WholeRefines = (rest new old : Circuit) (ls : List Link) → Typed rest →
-    CanPlug rest ls new → CanPlug rest ls old → Refines new old → Refines (plug rest ls new) (plug rest ls old)
+WholeRefines = (rest new old : Circuit) (ls : List Link) → Typed rest → CanPlug rest ls old → Apart rest new →
+    Refines new old → Refines (plug rest ls new) (plug rest ls old)
 
 -- without a Buffer a circuit shows nothing new
 abbrev pub DropRefines : Type 0
