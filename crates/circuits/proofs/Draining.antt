@@ -7,7 +7,7 @@ use Rattle.components.specs.declared.kind.Kind.TheVariants.{Entry, Exit, Buffer,
 use Rattle.components.specs.Name.{Name, Port}
 use Rattle.circuits.specs.PortTokens.{Token, share, share_from}
 use Rattle.circuits.specs.Circuit.{Circuit, kind_of, Typed}
-use Rattle.circuits.specs.State.{State, start, initial}
+use Rattle.circuits.specs.CircuitState.{CircuitState, start, initial}
 use Rattle.circuits.specs.Firing.{Label.Fire}
 use Rattle.circuits.specs.Run.{Step, Firing, Firings}
 use Rattle.circuits.specs.Buffers.{first_port, bypass, drop_node, IsBufferLike, CanDropBuffer}
@@ -39,7 +39,7 @@ no_exit (Fork _ _) h = tt
 no_exit _ h = absurd h
 
 -- only wires that come from an Init hold anything
-abbrev pub Comes : Circuit → State → Type 0
+abbrev pub Comes : Circuit → CircuitState → Type 0
 Comes c s = (p : Port) (v : Token) (vs : List Token) → s.wires p ≡ v ∷ vs → ComesFromInit c p
 
 module _ (c : Circuit) where
@@ -79,18 +79,18 @@ module _ (c : Circuit) where
   cons_behind [] w ws = (w, ws, refl)
   cons_behind (x ∷ xs) w ws = (x, xs ++ w ∷ ws, refl)
 
-  step_comes_at : (s : State) (n : Name) (k : ℕ) (t : State) (st : Step c s n (Fire k) t) → Led c n → Comes c s →
+  step_comes_at : (s : CircuitState) (n : Name) (k : ℕ) (t : CircuitState) (st : Step c s n (Fire k) t) → Led c n → Comes c s →
       (p : Port) (v : Token) (vs : List Token) (b : List Token) → st.between p ≡ b → b ++ share_from n st.given (c.feeder p) ≡ v ∷ vs → ComesFromInit c p
   step_comes_at s n k t st led h p v vs [] e f = gift_comes n led st.given p v vs (c.feeder p) refl f
   step_comes_at s n k t st led h p v vs (w ∷ ws) e f =
       let (z, zs, g) = cons_behind (share n st.taken p) w ws in h p z zs (st.takes p ∙ ap (λ x. share n st.taken p ++ x) e ∙ g)
 
-  pub led_comes : (s : State) (fs : List Firing) (t : State) → AllByRecursion (λ f. Led c f.node) fs → Firings c s fs t → Comes c s → Comes c t
-  led_comes s [] t led run h p v vs e = h p v vs (ap (λ (z : State). z.wires p) run ∙ e)
+  pub led_comes : (s : CircuitState) (fs : List Firing) (t : CircuitState) → AllByRecursion (λ f. Led c f.node) fs → Firings c s fs t → Comes c s → Comes c t
+  led_comes s [] t led run h p v vs e = h p v vs (ap (λ (z : CircuitState). z.wires p) run ∙ e)
   led_comes s (f ∷ fs) t led run h p v vs e =
       led_comes run.0 fs t led.1 run.2 (λ q w ws g. step_comes_at s f.node f.choice run.0 run.1 led.0 h q w ws (run.1.between q) refl (sym (run.1.gives q) ∙ g)) p v vs e
 
-  pub rest_comes : (r : State) → IsRest c r → (p : Port) (v : Token) (vs : List Token) → r.wires p ≡ v ∷ vs → ComesFromInit c p
+  pub rest_comes : (r : CircuitState) → IsRest c r → (p : Port) (v : Token) (vs : List Token) → r.wires p ≡ v ∷ vs → ComesFromInit c p
   rest_comes r is = led_comes (start c) is.firings r is.led is.leads start_comes
 
 module _ (c : Circuit) (b : Name) (cd : CanDropBuffer c b) (ty : Typed c) where
@@ -101,13 +101,13 @@ module _ (c : Circuit) (b : Name) (cd : CanDropBuffer c b) (ty : Typed c) where
   through = through_of cd.kind cd.passes
 
   -- at rest nothing stands before b
-  rest_empty_at : (r : State) → IsRest c r → (xs : List Token) → r.wires (first_port b) ≡ xs → r.wires (first_port b) ≡ []
+  rest_empty_at : (r : CircuitState) → IsRest c r → (xs : List Token) → r.wires (first_port b) ≡ xs → r.wires (first_port b) ≡ []
   rest_empty_at r is [] e = e
   rest_empty_at r is (v ∷ vs) e =
       let led : Led c b = record { kind = cd.kind; is_kind = cd.is_kind; passes = through; comes = rest_comes c r is (first_port b) v vs e } in
       absurd (is.ends b 0 _ led (pass c b can ty r v vs e))
 
-  rest_empty : (r : State) → IsRest c r → r.wires (first_port b) ≡ []
+  rest_empty : (r : CircuitState) → IsRest c r → r.wires (first_port b) ≡ []
   rest_empty r is = rest_empty_at r is (r.wires (first_port b)) refl
 
   root_away : (n : Name) (k : Kind) → c.kind_at n ≡ Some k → (PassesThrough k → ⊥) → n ≢ b
@@ -194,14 +194,14 @@ module _ (c : Circuit) (b : Name) (cd : CanDropBuffer c b) (ty : Typed c) where
       }
 
   -- firings without b
-  record Fewer (s : State) (fs : List Firing) (t : State) : Type 0 where
-    to : State
+  record Fewer (s : CircuitState) (fs : List Firing) (t : CircuitState) : Type 0 where
+    to : CircuitState
     firings : List Firing
     leads : Firings (drop_node b c) s firings to
     ahead : Ahead c b to t
     led : AllByRecursion (λ f. Led c f.node) fs → AllByRecursion (λ f. Led (drop_node b c) f.node) firings
 
-  fewer : (s t : State) (fs : List Firing) (u : State) → Ahead c b s t → Firings c t fs u → Fewer s fs u
+  fewer : (s t : CircuitState) (fs : List Firing) (u : CircuitState) → Ahead c b s t → Firings c t fs u → Fewer s fs u
   fewer s t [] u a run = record { to = s; firings = []; leads = refl; ahead = subst (Ahead c b s) run a; led = λ h. tt }
   fewer s t (f ∷ fs) u a run =
       elim (name_cases f.node b) [
@@ -209,7 +209,7 @@ module _ (c : Circuit) (b : Name) (cd : CanDropBuffer c b) (ty : Typed c) where
             let go = fewer s run.0 fs u (pass_ahead c b can ty t f.choice run.0 (subst (λ z. Step c t z (Fire f.choice) run.0) is.is run.1) s a) run.2 in
             record { to = go.to; firings = go.firings; leads = go.leads; ahead = go.ahead; led = λ h. go.led h.1 }
         | inr ne ↦
-            let x : State = down_to c b can s t a f.node (Fire f.choice) run.0 ne.is_not run.1 in
+            let x : CircuitState = down_to c b can s t a f.node (Fire f.choice) run.0 ne.is_not run.1 in
             let go = fewer x run.0 fs u (down_ahead c b can s t a f.node (Fire f.choice) run.0 ne.is_not run.1) run.2 in
             record {
               to = go.to;
@@ -221,7 +221,7 @@ module _ (c : Circuit) (b : Name) (cd : CanDropBuffer c b) (ty : Typed c) where
       ]
 
   -- the state at rest
-  rest_without : (r : State) → IsRest c r → (q : State) × IsRest (drop_node b c) q × Ahead c b q r
+  rest_without : (r : CircuitState) → IsRest c r → (q : CircuitState) × IsRest (drop_node b c) q × Ahead c b q r
   rest_without r is =
       let go = fewer (start (drop_node b c)) (start c) is.firings r (start_ahead c b can ty) is.leads in (
         go.to,

@@ -6,12 +6,12 @@ use Rattle.components.specs.Name.{Name, Port}
 use Rattle.components.specs.Orders.{same_bytes, other_bytes}
 use Rattle.circuits.specs.PortTokens.{Token, share, share_from, at_port}
 use Rattle.circuits.specs.Circuit.{Circuit}
-use Rattle.circuits.specs.State.{State}
+use Rattle.circuits.specs.CircuitState.{CircuitState}
 use Rattle.circuits.specs.Firing.{Label, Acts}
 use Rattle.circuits.specs.Run.{Step}
 
 -- a node acts as its kind does
-pub acts_at : (c : Circuit) (s : State) (n : Name) (l : Label) (t : State) (st : Step c s n l t) (k : Kind) → c.kind_at n ≡ Some k → Acts k l (s.slots n) st.taken st.given (t.slots n)
+pub acts_at : (c : Circuit) (s : CircuitState) (n : Name) (l : Label) (t : CircuitState) (st : Step c s n l t) (k : Kind) → c.kind_at n ≡ Some k → Acts k l (s.slots n) st.taken st.given (t.slots n)
 acts_at c s n l t st k e =
     subst (λ x. Acts x l (s.slots n) st.taken st.given (t.slots n)) (same_Some st.kind k (sym st.is_kind ∙ e)) st.acts
 
