@@ -13,7 +13,7 @@ use Rattle.circuits.specs.Firing.{Label, Label.Feed, Label.Take, Label.Fire, Act
 use Rattle.circuits.specs.Run.{Step, Firing, Firings}
 use Rattle.circuits.specs.Plug.{Apart, beside, or_else}
 use Rattle.circuits.proofs.Steps.{share_other, append_none}
-use Rattle.circuits.proofs.Sim.{Inner, Sim, inner_then, inner_one, inner_none}
+use Rattle.circuits.proofs.Simulation.{Inner, Sim, inner_then, inner_one, inner_none}
 use Rattle.circuits.proofs.Fitting.{step_fits, start_fits, take_fits}
 
 -- s and t are alike at the nodes of c

@@ -14,7 +14,7 @@ use Rattle.circuits.specs.Run.{Step, Firing, Firings}
 use Rattle.circuits.specs.Plug.{PlugLink, link, redirect, as_buffer}
 use Rattle.circuits.proofs.Names.{name_cases}
 use Rattle.circuits.proofs.Steps.{acts_at, share_none, share_from_none, share_other, share_same, append_none}
-use Rattle.circuits.proofs.Sim.{Inner, Sim, inner_then, inner_one}
+use Rattle.circuits.proofs.Simulation.{Inner, Sim, inner_then, inner_one}
 
 -- what link asks of a circuit: an Exit and an Entry of one shape, and nothing is fed by the Exit
 pub record CanLink (l : PlugLink) (c : Circuit) (a : Shape) : Type 0 where

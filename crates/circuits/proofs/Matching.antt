@@ -8,7 +8,7 @@ use Rattle.circuits.specs.CircuitState.{CircuitState, start, IsStateOf}
 use Rattle.circuits.specs.Firing.{Label.Feed, Label.Take, Label.Fire}
 use Rattle.circuits.specs.Run.{Step, move_of}
 use Rattle.circuits.specs.Refines.{SamePorts, Refines}
-use Rattle.circuits.proofs.Sim.{Inner, Sim}
+use Rattle.circuits.proofs.Simulation.{Inner, Sim}
 use Rattle.circuits.proofs.Fitting.{step_fits, run_fits, start_fits, take_fits}
 use Rattle.circuits.proofs.Refining.{sim_refines}
 

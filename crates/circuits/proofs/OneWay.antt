@@ -15,8 +15,7 @@ use Rattle.circuits.specs.CircuitState.{Slot, HasNoTag, TagsDiffer, CircuitState
 use Rattle.circuits.specs.Firing.{Label.Fire, FitEach, one_behind, Selects, FiresBranch, waiting, finished, FiresTagger, Fires}
 use Rattle.circuits.specs.Run.{Step}
 use Rattle.circuits.proofs.Names.{name_cases}
-use Rattle.circuits.proofs.Steps.{acts_at, share_same}
-use Rattle.circuits.proofs.Resting.{state_same}
+use Rattle.circuits.proofs.Steps.{acts_at, share_same, state_same}
 
 -- what is taken stands at the fronts of the input wires
 abbrev Stands : (ℕ → List Token) → List (List Token) → Type 0

@@ -10,7 +10,7 @@ use Rattle.circuits.specs.Circuit.{Circuit, Typed}
 use Rattle.circuits.specs.Plug.{PlugLink, link, link_all, redirect, plug, beside, or_else, Apart, Joins, UsesNoneTwice, CanPlug}
 use Rattle.circuits.specs.Refines.{SamePorts, Refines}
 use Rattle.circuits.proofs.Names.{name_cases}
-use Rattle.circuits.proofs.Sim.{Sim, sim_shows}
+use Rattle.circuits.proofs.Simulation.{Sim, sim_shows}
 use Rattle.circuits.proofs.Linking.{CanLink, link_sim, kind_other}
 use Rattle.circuits.proofs.Beside.{beside_sim, apart_none, apart_sym, kind_left, kind_right}
 

@@ -30,3 +30,7 @@ share_same n side p h = ap (λ b. if b then at_port side p.port else []) (same_b
 
 pub append_none : (xs ys : List Token) → ys ≡ [] → xs ≡ xs ++ ys
 append_none xs ys e = sym (append-nil xs) ∙ ap (λ z. xs ++ z) (sym e)
+
+-- two states are one where they hold the same
+pub state_same : (s t : CircuitState) → ((p : Port) → s.wires p ≡ t.wires p) → ((n : Name) → s.slots n ≡ t.slots n) → s ≡ t
+state_same s t ws xs = λ i. record { wires = λ p. ws p i; slots = λ n. xs n i }

@@ -11,11 +11,11 @@ use Rattle.circuits.specs.Refines.{SamePorts, Refines}
 use Rattle.circuits.specs.Laws.{WholeRefines}
 use Rattle.circuits.proofs.Lists.{each_append, each_map, each_both}
 use Rattle.circuits.proofs.Beside.{apart_none, apart_sym, kind_left}
-use Rattle.circuits.proofs.Together.{kind_of_right, or_some}
+use Rattle.circuits.proofs.Plugging.Typed.{kind_of_right, or_some}
 use Rattle.circuits.proofs.Transitive.{IsLong, refines_of_long, long_apart}
-use Rattle.circuits.proofs.Plugged.{can_link_all, plug_typed, IsEnd, IsFree, kind_free, was_end, some_kind}
-use Rattle.circuits.proofs.Regrouping.{beside_assoc, Away, link_all_right, link_all_left, Distinct, link_all_swap, link_all_append}
-use Rattle.circuits.proofs.Splitting.{passing, failing, each_passing, once_passing, once_append, AreDistinct, are_distinct, split_links, distinct_back, failing_apart}
+use Rattle.circuits.proofs.Plugging.Links.{can_link_all, plug_typed, IsEnd, IsFree, kind_free, was_end, some_kind}
+use Rattle.circuits.proofs.Plugging.Regrouping.{beside_assoc, Away, link_all_right, link_all_left, Distinct, link_all_swap, link_all_append}
+use Rattle.circuits.proofs.Plugging.Splitting.{passing, failing, each_passing, once_passing, once_append, AreDistinct, are_distinct, split_links, distinct_back, failing_apart}
 
 -- one of the link's ends is a node of the rest
 abbrev pub touches : Circuit → PlugLink → Bool

@@ -15,11 +15,7 @@ use Rattle.circuits.specs.Buffers.{first_port}
 use Rattle.circuits.specs.Root.{PassesThrough}
 use Rattle.circuits.specs.Drains.{IsInit, Led, IsRest}
 use Rattle.circuits.proofs.Names.{name_cases}
-use Rattle.circuits.proofs.Steps.{acts_at, share_other, share_same}
-
--- two states are one where they hold the same
-pub state_same : (s t : CircuitState) → ((p : Port) → s.wires p ≡ t.wires p) → ((n : Name) → s.slots n ≡ t.slots n) → s ≡ t
-state_same s t ws xs = λ i. record { wires = λ p. ws p i; slots = λ n. xs n i }
+use Rattle.circuits.proofs.Steps.{acts_at, share_other, share_same, state_same}
 
 -- what a Buffer or a Fork gives for a token
 abbrev pub given_for : Kind → Token → List (List Token)

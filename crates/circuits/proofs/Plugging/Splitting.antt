@@ -5,8 +5,8 @@ use Rattle.components.specs.declared.kind.Kind.TheVariants.{Entry, Exit}
 use Rattle.circuits.specs.Circuit.{Circuit}
 use Rattle.circuits.specs.Plug.{PlugLink, link, link_all, UsesNoneTwice}
 use Rattle.circuits.proofs.Lists.{each_append, each_both}
-use Rattle.circuits.proofs.Plugged.{CanLinkAt}
-use Rattle.circuits.proofs.Regrouping.{Distinct, link_past}
+use Rattle.circuits.proofs.Plugging.Links.{CanLinkAt}
+use Rattle.circuits.proofs.Plugging.Regrouping.{Distinct, link_past}
 
 abbrev pub put_where : Bool → PlugLink → List PlugLink → List PlugLink
 put_where true l ls = l ∷ ls

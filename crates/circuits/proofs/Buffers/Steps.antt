@@ -7,6 +7,7 @@ use Rattle.components.specs.declared.kind.Kind.TheVariants.{Entry, Buffer, Fork}
 use Rattle.components.specs.Name.{Name, Port, port_get}
 use Rattle.components.specs.Kind.{Shape, ins, outs}
 use Rattle.components.specs.Orders.{same_bytes, other_bytes}
+use Rattle.components.specs.Numbered.{single_port}
 use Rattle.circuits.specs.PortTokens.{Token, share, share_from, at_port, one}
 use Rattle.circuits.specs.Circuit.{Circuit, kind_of, Typed}
 use Rattle.circuits.specs.CircuitState.{Slot, CircuitState, start, initial}
@@ -15,7 +16,7 @@ use Rattle.circuits.specs.Run.{Step}
 use Rattle.circuits.specs.Buffers.{bypass, drop_node}
 use Rattle.circuits.proofs.Names.{name_cases}
 use Rattle.circuits.proofs.Steps.{acts_at, share_none, share_other, share_same, append_none}
-use Rattle.circuits.proofs.Sim.{Inner, inner_then, inner_one, inner_none}
+use Rattle.circuits.proofs.Simulation.{Inner, inner_then, inner_one, inner_none}
 use Rattle.circuits.proofs.Matching.{Matches}
 
 -- a kind that passes its one input to its one output
@@ -226,11 +227,6 @@ module _ (c : Circuit) (b : Name) (can : CanDrop c b) where
               ∙ ap (λ z. z ++ held b up_to (c.feeder p)) (up_wires p away);
           slots = λ m away. up_slots m away;
         }
-
-pub single_port : (a x : Shape) (i : ℕ) → port_get (a ∷ []) i ≡ Some x → i ≡ 1
-single_port a x zero e = let k : None ≡ Some x = e in cc
-single_port a x (suc zero) e = refl
-single_port a x (suc (suc i)) e = let k : None ≡ Some x = e in cc
 
 feed_takes_none : (k : Kind) (v : Token) (old : List Slot) (taken given : List (List Token)) (new : List Slot) → Acts k (Feed v) old taken given new → taken ≡ []
 feed_takes_none (Entry a) v old taken given new h = h.1

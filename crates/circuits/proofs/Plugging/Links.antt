@@ -10,7 +10,7 @@ use Rattle.circuits.specs.Plug.{PlugLink, link, link_all, plug, beside, Joins, U
 use Rattle.circuits.proofs.Lists.{each_map, each_both}
 use Rattle.circuits.proofs.Linking.{CanLink, kind_other}
 use Rattle.circuits.proofs.Refining.{still, joined_out, joined_in}
-use Rattle.circuits.proofs.Together.{Was, was_exit, was_same, was, link_typed, beside_typed}
+use Rattle.circuits.proofs.Plugging.Typed.{Was, was_exit, was_same, was, link_typed, beside_typed}
 
 abbrev pub CanLinkAt : Circuit → PlugLink → Type 0
 CanLinkAt c l = (a : Shape) × CanLink l c a

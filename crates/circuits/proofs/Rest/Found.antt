@@ -23,8 +23,8 @@ use Rattle.circuits.specs.Drains.{Led, IsRest}
 use Rattle.circuits.proofs.Names.{name_cases}
 use Rattle.circuits.proofs.Steps.{acts_at, share_same, share_other}
 use Rattle.circuits.proofs.MadeSteps.{Deed, after, step_made}
-use Rattle.circuits.proofs.Resting.{Passed, passes_one, given_for}
-use Rattle.circuits.proofs.Draining.{Comes, start_comes, led_comes}
+use Rattle.circuits.proofs.Rest.OneRest.{Passed, passes_one, given_for}
+use Rattle.circuits.proofs.Rest.Inits.{Comes, start_comes, led_comes}
 
 -- lists of at most one token
 abbrev AtMostOne : List Token → Type 0

@@ -7,12 +7,13 @@ use Rattle.components.specs.declared.kind.Kind.TheVariants.{Entry, Exit, Buffer,
 use Rattle.components.specs.Name.{Name, Port, port_get}
 use Rattle.components.specs.Kind.{Shape, ins, outs}
 use Rattle.components.specs.Orders.{same_bytes, other_bytes}
+use Rattle.components.specs.Numbered.{single_port}
 use Rattle.circuits.specs.Circuit.{Circuit, Wire, Typed}
 use Rattle.circuits.specs.Refines.{SamePorts, Refines}
 use Rattle.circuits.specs.Buffers.{bypass, drop_node, IsBufferLike, CanDropBuffer}
 use Rattle.circuits.proofs.Names.{name_cases}
 use Rattle.circuits.proofs.Matching.{matches_refines}
-use Rattle.circuits.proofs.Dropping.{CanDrop, IsPlain, buffer_plain, fork_plain, kind_dropped, kind_gone, feeder_dropped, feeder_gone, single_port, out_port, drop_matches, undrop_matches}
+use Rattle.circuits.proofs.Buffers.Steps.{CanDrop, IsPlain, buffer_plain, fork_plain, kind_dropped, kind_gone, feeder_dropped, feeder_gone, out_port, drop_matches, undrop_matches}
 
 -- what feeds an input without b: what fed it, or what fed b
 pub data Fed (c : Circuit) (b : Name) (p q : Port) : Type 0 where
