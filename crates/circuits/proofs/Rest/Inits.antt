@@ -1,4 +1,4 @@
--- Only wires that come from an Init hold anything where the led nodes alone have fired.
+-- What holds tokens where the led nodes alone have fired.
 use Rattle.std.proofs.Common.{◌≡◌, ℕ, inl, inr, refl, sym, ap, subst, ◌∙◌, List, [], ◌∷◌, ◌++◌, Option, Some, None}
 use Rattle.std.specs.List.{AllByRecursion}
 use Rattle.components.specs.declared.kind.Kind.{Kind}
@@ -9,11 +9,11 @@ use Rattle.circuits.specs.Circuit.{Circuit, kind_of}
 use Rattle.circuits.specs.CircuitState.{CircuitState, start, initial}
 use Rattle.circuits.specs.Firing.{Label.Fire}
 use Rattle.circuits.specs.Run.{Step, Firing, Firings}
+use Rattle.circuits.specs.Buffers.{first_port}
 use Rattle.circuits.specs.Root.{PassesThrough, Root, Root.here, Root.past}
 use Rattle.circuits.specs.Drains.{IsInit, ComesFromInit, Led, IsRest}
 use Rattle.circuits.proofs.Names.{name_cases}
 use Rattle.circuits.proofs.Steps.{share_other}
-use Rattle.circuits.specs.Buffers.{first_port}
 
 -- what holds a token at the start is an Init
 initial_init : (k : Kind) (v : Token) (vs : List Token) → initial (Some k) ≡ v ∷ vs → IsInit k
