@@ -1,5 +1,5 @@
 pub mod Listed
-mod Deeds
+pub mod Deeds
 mod LoneWire
 mod WireDrains
 mod LoneTagger

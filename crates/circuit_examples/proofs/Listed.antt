@@ -1,5 +1,5 @@
 -- The circuit of a graph that is listed, and when it is typed.
-use Rattle.std.proofs.Common.{◌≡◌, ◌≢◌, ℕ, zero, suc, ◌<◌, inl, inr, Bool, true, false, refl, sym, ap, subst, ◌∙◌, bytes_eq, cond, if◌then◌else◌, length, List, [], ◌∷◌, Option, Some, None}
+use Rattle.std.proofs.Common.{◌≡◌, ◌≢◌, ℕ, ◌<◌, inl, inr, Bool, true, false, refl, sym, ap, subst, ◌∙◌, bytes_eq, cond, if◌then◌else◌, length, List, [], ◌∷◌, Option, Some, None}
 use Rattle.std.specs.Ordering.{eq_by_cmp}
 use Rattle.std.specs.FinMap as map
 use Rattle.std.specs.List.{AllByRecursion}
@@ -10,6 +10,7 @@ use Rattle.components.specs.Name.{Name, Port, name_cmp, port_cmp, port_get}
 use Rattle.components.specs.Kind.{Shape, ins, outs, KindOk}
 use Rattle.components.specs.Node.{Body}
 use Rattle.components.specs.NamedGraph.{IsTyped}
+use Rattle.components.specs.Numbered.{single_port}
 use Rattle.components.specs.Lookups.{same_test, other_test}
 use Rattle.components.specs.Orders.{name_total, port_total, port_same, port_cases}
 use Rattle.circuits.specs.Circuit.{Circuit, Wire, Typed, circuit_of, kind_of_body}
@@ -97,11 +98,6 @@ abbrev pub OutputsFeed : Circuit → Name → Kind → Type 0
 OutputsFeed c n k = (i : ℕ) (a : Shape) → port_get (outs k) i ≡ Some a → (p : Port) × (c.feeder p ≡ Some (record { node = n; port = i }))
 
 -- a side with no port, and one with a port that is on a wire
-one_port : (b a : Shape) (i : ℕ) → port_get (b ∷ []) i ≡ Some a → i ≡ 1
-one_port b a zero e = absurd (none-some a e)
-one_port b a (suc zero) e = refl
-one_port b a (suc (suc i)) e = absurd (none-some a e)
-
 module _ (c : Circuit) (n : Name) (k : Kind) where
   pub no_in : ins k ≡ [] → InputsFed c n k
   no_in none i a e = absurd (none-some a (ap (λ x. port_get x i) (sym none) ∙ e))
@@ -111,11 +107,11 @@ module _ (c : Circuit) (n : Name) (k : Kind) where
 
   pub one_in : (b : Shape) → ins k ≡ b ∷ [] → (q : Port) → c.feeder (first_port n) ≡ Some q → InputsFed c n k
   one_in b one q fed i a e =
-      (q, ap (λ j. c.feeder (record { node = n; port = j })) (one_port b a i (ap (λ x. port_get x i) (sym one) ∙ e)) ∙ fed)
+      (q, ap (λ j. c.feeder (record { node = n; port = j })) (single_port b a i (ap (λ x. port_get x i) (sym one) ∙ e)) ∙ fed)
 
   pub one_out : (b : Shape) → outs k ≡ b ∷ [] → (p : Port) → c.feeder p ≡ Some (first_port n) → OutputsFeed c n k
   one_out b one p fed i a e =
-      (p, fed ∙ ap (λ j. Some (record { node = n; port = j })) (sym (one_port b a i (ap (λ x. port_get x i) (sym one) ∙ e))))
+      (p, fed ∙ ap (λ j. Some (record { node = n; port = j })) (sym (single_port b a i (ap (λ x. port_get x i) (sym one) ∙ e))))
 
 -- outputs that are not one
 pub other_node : (p q x y : Port) → p.node ≢ q.node → p ≡ q → x ≡ y

@@ -13,7 +13,7 @@ use Rattle.components.specs.Lookups.{other_test}
 use Rattle.components.specs.Orders.{port_total, port_same, port_cases, same_bytes}
 use Rattle.circuits.specs.PortTokens.{Token, single, one, at_port, share, share_from}
 use Rattle.circuits.specs.Circuit.{Circuit, Typed, circuit_of, kind_of}
-use Rattle.circuits.specs.State.{Slot, State, start, initial}
+use Rattle.circuits.specs.CircuitState.{Slot, CircuitState, start, initial}
 use Rattle.circuits.specs.Firing.{Label.Fire, Fires}
 use Rattle.circuits.specs.Run.{Step, Firing, Firings}
 use Rattle.circuits.specs.Buffers.{first_port}
@@ -90,7 +90,7 @@ module _ (value mark : ℕ) where
   held xs ys zs p =
       if eq_by_cmp port_cmp p (first_port init) then xs else (if eq_by_cmp port_cmp p (first_port passer) then ys else (if eq_by_cmp port_cmp p (first_port out) then zs else []))
 
-  abbrev at : List Token → List Token → List Token → State
+  abbrev at : List Token → List Token → List Token → CircuitState
   at xs ys zs = record { wires = held xs ys zs; slots = λ n. [] }
 
   -- no wire enters this port
@@ -198,13 +198,13 @@ module _ (value mark : ℕ) where
   )
 
   -- the node n passes a token
-  record Passed (s : State) (n : Name) (choice : ℕ) (t : State) : Type 0 where
+  record Passed (s : CircuitState) (n : Name) (choice : ℕ) (t : CircuitState) : Type 0 where
     step : Step c s n (Fire choice) t
     token : Token
     is_taken : step.taken ≡ one token ∷ []
     is_given : step.given ≡ one token ∷ []
 
-  passed : (s : State) (n : Name) (choice : ℕ) (t : State) → Step c s n (Fire choice) t → Passed s init choice t ⊎ Passed s passer choice t
+  passed : (s : CircuitState) (n : Name) (choice : ℕ) (t : CircuitState) → Step c s n (Fire choice) t → Passed s init choice t ⊎ Passed s passer choice t
   passed s n choice t st =
       elim (each_node Sort (init_nodes value mark) sorts n st.kind st.is_kind) [
         | inl none ↦ absurd (none choice (s.slots n) st.taken st.given (t.slots n) st.acts)
@@ -223,12 +223,12 @@ module _ (value mark : ℕ) where
           record { step = its; token = v; is_taken = et; is_given = eg }
 
   -- the first token on its wire
-  first_is : (s : State) (n : Name) (choice : ℕ) (t : State) (h : Passed s n choice t) → s.wires (first_port n) ≡ h.token ∷ h.step.between (first_port n)
+  first_is : (s : CircuitState) (n : Name) (choice : ℕ) (t : CircuitState) (h : Passed s n choice t) → s.wires (first_port n) ≡ h.token ∷ h.step.between (first_port n)
   first_is s n choice t h =
       h.step.takes (first_port n)
       ∙ ap (λ z. z ++ h.step.between (first_port n)) (share_same n h.step.taken (first_port n) refl ∙ ap (λ z. at_port z 1) h.is_taken)
 
-  none_passes : (zs : List Token) (n : Name) (choice : ℕ) (t : State) → Step c (at [] [] zs) n (Fire choice) t → ⊥
+  none_passes : (zs : List Token) (n : Name) (choice : ℕ) (t : CircuitState) → Step c (at [] [] zs) n (Fire choice) t → ⊥
   none_passes zs n choice t st =
       elim (passed (at [] [] zs) n choice t st) [
         | inl h ↦ empty h.token (h.step.between (first_port init)) (first_is (at [] [] zs) init choice t h)
@@ -239,7 +239,7 @@ module _ (value mark : ℕ) where
       empty v vs e = cc
 
   -- at rest
-  rest : State
+  rest : CircuitState
   rest = at [] [] (one (single value))
 
   led : Led c passer
@@ -268,7 +268,7 @@ module _ (value mark : ℕ) where
         ends = λ n choice t is st. none_passes (one (single value)) n choice t st;
       }
 
-  pub init_rests : (r : State) × IsRest (circuit_of (lone_init value mark)) r × (r.wires (first_port out) ≡ one (single value))
+  pub init_rests : (r : CircuitState) × IsRest (circuit_of (lone_init value mark)) r × (r.wires (first_port out) ≡ one (single value))
   unfolding rest
   init_rests = (rest, subst (λ z. IsRest z rest) (sym (is_spelled (init_nodes value mark) init_wires)) rests, refl)
 
@@ -301,7 +301,7 @@ module _ (value mark : ℕ) where
     )
 
     -- at the Exit stands the value, followed by what was put in
-    abbrev end : State
+    abbrev end : CircuitState
     end = at [] [] (one (single value) ++ given bits)
 
     abbrev AtExit : Name → Kind → Type 0
@@ -347,10 +347,10 @@ module _ (value mark : ℕ) where
         }
 
     -- no firing changes what stands on the wires together
-    abbrev all_of : State → List Token
+    abbrev all_of : CircuitState → List Token
     all_of s = s.wires (first_port out) ++ (s.wires (first_port passer) ++ s.wires (first_port init))
 
-    init_keeps : (s : State) (choice : ℕ) (t : State) → Passed s init choice t → all_of s ≡ all_of t
+    init_keeps : (s : CircuitState) (choice : ℕ) (t : CircuitState) → Passed s init choice t → all_of s ≡ all_of t
     init_keeps s choice t h =
         let x = h.step.between (first_port init) in
         let y = h.step.between (first_port passer) in
@@ -360,7 +360,7 @@ module _ (value mark : ℕ) where
         ∙ sym (λ i. (h.step.gives (first_port out) ∙ append-nil z) i
         ++ ((h.step.gives (first_port passer) ∙ ap (λ w. y ++ at_port w 1) h.is_given) i ++ (h.step.gives (first_port init) ∙ append-nil x) i))
 
-    passer_keeps : (s : State) (choice : ℕ) (t : State) → Passed s passer choice t → all_of s ≡ all_of t
+    passer_keeps : (s : CircuitState) (choice : ℕ) (t : CircuitState) → Passed s passer choice t → all_of s ≡ all_of t
     passer_keeps s choice t h =
         let x = h.step.between (first_port init) in
         let y = h.step.between (first_port passer) in
@@ -370,7 +370,7 @@ module _ (value mark : ℕ) where
         ∙ sym (λ i. (h.step.gives (first_port out) ∙ ap (λ w. z ++ at_port w 1) h.is_given) i
         ++ ((h.step.gives (first_port passer) ∙ append-nil y) i ++ (h.step.gives (first_port init) ∙ append-nil x) i))
 
-    firings_keep : (s : State) (fs : List Firing) (t : State) → Firings c s fs t → all_of s ≡ all_of t
+    firings_keep : (s : CircuitState) (fs : List Firing) (t : CircuitState) → Firings c s fs t → all_of s ≡ all_of t
     firings_keep s [] t run = ap all_of run
     firings_keep s (f ∷ fs) t run =
         elim (passed s f.node f.choice run.0 run.1) [ inl h ↦ init_keeps s f.choice run.0 h | inr h ↦ passer_keeps s f.choice run.0 h ] ∙ firings_keep run.0 fs t run.2
@@ -379,8 +379,8 @@ module _ (value mark : ℕ) where
     unfolding rest
     drains_only law d =
         let same : d.rest ≡ rest = law c d.rest rest d.is_rest rests in
-        let no_init : d.end.wires (first_port init) ≡ [] = d.others (first_port init) (Init value mark) refl tt ∙ ap (λ (s : State). s.wires (first_port init)) same in
-        let no_passer : d.end.wires (first_port passer) ≡ [] = d.others (first_port passer) (Buffer (field 1)) refl tt ∙ ap (λ (s : State). s.wires (first_port passer)) same in
+        let no_init : d.end.wires (first_port init) ≡ [] = d.others (first_port init) (Init value mark) refl tt ∙ ap (λ (s : CircuitState). s.wires (first_port init)) same in
+        let no_passer : d.end.wires (first_port passer) ≡ [] = d.others (first_port passer) (Buffer (field 1)) refl tt ∙ ap (λ (s : CircuitState). s.wires (first_port passer)) same in
         let kept : single value ∷ given bits ≡ all_of d.end = sym (ap all_of (loaded_is given)) ∙ firings_keep (loaded c given) d.firings d.end d.leads in (
           d.fit_in bits (field 1) refl,
           sym (d.exits out (field 1) refl) ∙ sym (append-nil (d.end.wires (first_port out)))

@@ -8,7 +8,7 @@ use Rattle.components.specs.Kind.{Shape, tagged, KindOk}
 use Rattle.components.specs.NamedGraph.{IsTyped}
 use Rattle.circuits.specs.PortTokens.{Token, one}
 use Rattle.circuits.specs.Circuit.{Circuit, Typed, circuit_of}
-use Rattle.circuits.specs.State.{Slot, start}
+use Rattle.circuits.specs.CircuitState.{Slot, start}
 use Rattle.circuits.specs.Firing.{Label.Fire, waiting, finished}
 use Rattle.circuits.specs.Run.{Move, Shows}
 use Rattle.circuits.specs.Buffers.{first_port}

@@ -9,7 +9,7 @@ use Rattle.components.specs.Kind.{Shape}
 use Rattle.components.specs.NamedGraph.{IsTyped}
 use Rattle.circuits.specs.PortTokens.{Token, one, at_port, share}
 use Rattle.circuits.specs.Circuit.{Circuit, Typed, circuit_of}
-use Rattle.circuits.specs.State.{State, start}
+use Rattle.circuits.specs.CircuitState.{CircuitState, start}
 use Rattle.circuits.specs.Firing.{Label, Label.Feed, Label.Take, Label.Fire}
 use Rattle.circuits.specs.Run.{Step, Move, Run, shown, trace, Shows}
 use Rattle.circuits.specs.Buffers.{first_port}
@@ -74,14 +74,14 @@ module _ (shape : Shape) where
   pub node : (n : Name) (k : Kind) → (wire shape).kind_at n ≡ Some k → Node shape n k
   node n k e = each_node (λ m j. Node shape m j) (wire_nodes shape) (first refl refl, (last refl refl, tt)) n k e
 
-  pub no_fire : (s : State) (n : Name) (choice : ℕ) (t : State) → Step (wire shape) s n (Fire choice) t → ⊥
+  pub no_fire : (s : CircuitState) (n : Name) (choice : ℕ) (t : CircuitState) → Step (wire shape) s n (Fire choice) t → ⊥
   no_fire s n choice t st =
       elim (node n st.kind st.is_kind) [
         | first is e ↦ acts_at (wire shape) s n (Fire choice) t st (Entry shape) (st.is_kind ∙ ap Some e)
         | last is e ↦ acts_at (wire shape) s n (Fire choice) t st (Exit shape) (st.is_kind ∙ ap Some e)
       ]
 
-  no_take : (n : Name) (v : Token) (t : State) → Step (wire shape) (start (wire shape)) n (Take v) t → ⊥
+  no_take : (n : Name) (v : Token) (t : CircuitState) → Step (wire shape) (start (wire shape)) n (Take v) t → ⊥
   no_take n v t st =
       elim (node n st.kind st.is_kind) [
         | first is e ↦ acts_at (wire shape) (start (wire shape)) n (Take v) t st (Entry shape) (st.is_kind ∙ ap Some e)
@@ -92,11 +92,11 @@ module _ (shape : Shape) where
             cc
       ]
 
-  no_other : (v : Token) (ms : List Move) (t : State) → Run (wire shape) (start (wire shape)) ms t → trace ms ≡ taken_at exit_name v ∷ [] → ⊥
+  no_other : (v : Token) (ms : List Move) (t : CircuitState) → Run (wire shape) (start (wire shape)) ms t → trace ms ≡ taken_at exit_name v ∷ [] → ⊥
   no_other v [] t run e = cc
   no_other v (m ∷ ms) t run e = at m.node m.label run.0 run.1 e
     where
-      at : (n : Name) (l : Label) (mid : State) → Step (wire shape) (start (wire shape)) n l mid → shown n l (trace ms) ≡ taken_at exit_name v ∷ [] → ⊥
+      at : (n : Name) (l : Label) (mid : CircuitState) → Step (wire shape) (start (wire shape)) n l mid → shown n l (trace ms) ≡ taken_at exit_name v ∷ [] → ⊥
       at n (Feed x) mid st same = let label : Feed x ≡ Take v = ap first_label same in cc
       at n (Take x) mid st same = no_take n x mid st
       at n (Fire x) mid st same = no_fire (start (wire shape)) n x mid st

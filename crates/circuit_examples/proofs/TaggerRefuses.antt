@@ -7,7 +7,7 @@ use Rattle.components.specs.Name.{Name}
 use Rattle.components.specs.Kind.{Shape, tagged}
 use Rattle.circuits.specs.PortTokens.{Token, one, at_port}
 use Rattle.circuits.specs.Circuit.{Circuit, circuit_of}
-use Rattle.circuits.specs.State.{Slot, State, start, TagsDiffer}
+use Rattle.circuits.specs.CircuitState.{Slot, CircuitState, start, TagsDiffer}
 use Rattle.circuits.specs.Firing.{Label, Label.Feed, Label.Take, Label.Fire, waiting, finished, FiresTagger, Acts}
 use Rattle.circuits.specs.Run.{Step, Move, Run, trace, Shows}
 use Rattle.circuits.specs.Buffers.{first_port}
@@ -19,17 +19,17 @@ use Rattle.circuit_examples.proofs.Listed.{is_spelled, each_node}
 use Rattle.circuit_examples.proofs.LoneTagger.{alone}
 
 -- the first move that is seen, where the firings before it keep what holds
-pub record Seen (c : Circuit) (holds : State → Type 0) (m : Move) (rest : List Move) (t : State) : Type 0 where
-  pub before : State
+pub record Seen (c : Circuit) (holds : CircuitState → Type 0) (m : Move) (rest : List Move) (t : CircuitState) : Type 0 where
+  pub before : CircuitState
   pub held : holds before
-  pub after : State
+  pub after : CircuitState
   pub step : Step c before m.node m.label after
   pub later : List Move
   pub run : Run c after later t
   pub shows : trace later ≡ rest
 
-module _ (c : Circuit) (holds : State → Type 0) (keeps : (s : State) (n : Name) (choice : ℕ) (t : State) → Step c s n (Fire choice) t → holds s → holds t) where
-  seen_now : (s : State) (n : Name) (l : Label) (u : State) (ms : List Move) (t : State) → Step c s n l u → Run c u ms t → holds s →
+module _ (c : Circuit) (holds : CircuitState → Type 0) (keeps : (s : CircuitState) (n : Name) (choice : ℕ) (t : CircuitState) → Step c s n (Fire choice) t → holds s → holds t) where
+  seen_now : (s : CircuitState) (n : Name) (l : Label) (u : CircuitState) (ms : List Move) (t : CircuitState) → Step c s n l u → Run c u ms t → holds s →
       (m : Move) (rest : List Move) → record { node = n; label = l } ∷ trace ms ≡ m ∷ rest → Seen c holds m rest t
   seen_now s n l u ms t st run h m rest e =
       let same : record { node = n; label = l } ≡ m = cc in
@@ -43,13 +43,13 @@ module _ (c : Circuit) (holds : State → Type 0) (keeps : (s : State) (n : Name
         shows = cc;
       }
 
-  by_label : (s : State) (n : Name) (l : Label) (u : State) (ms : List Move) (t : State) → Step c s n l u → Run c u ms t → holds s → (m : Move) (rest : List Move) →
+  by_label : (s : CircuitState) (n : Name) (l : Label) (u : CircuitState) (ms : List Move) (t : CircuitState) → Step c s n l u → Run c u ms t → holds s → (m : Move) (rest : List Move) →
       (holds u → trace ms ≡ m ∷ rest → Seen c holds m rest t) → trace (record { node = n; label = l } ∷ ms) ≡ m ∷ rest → Seen c holds m rest t
   by_label s n (Feed v) u ms t st run h m rest go e = seen_now s n (Feed v) u ms t st run h m rest e
   by_label s n (Take v) u ms t st run h m rest go e = seen_now s n (Take v) u ms t st run h m rest e
   by_label s n (Fire choice) u ms t st run h m rest go e = go (keeps s n choice u st h) e
 
-  pub first_seen : (s : State) (ms : List Move) (t : State) → Run c s ms t → holds s → (m : Move) (rest : List Move) → trace ms ≡ m ∷ rest → Seen c holds m rest t
+  pub first_seen : (s : CircuitState) (ms : List Move) (t : CircuitState) → Run c s ms t → holds s → (m : Move) (rest : List Move) → trace ms ≡ m ∷ rest → Seen c holds m rest t
   first_seen s [] t run h m rest e = cc
   first_seen s (x ∷ ms) t run h m rest e =
       by_label s x.node x.label run.0 ms t run.1 run.2 h m rest (λ held f. first_seen run.0 ms t run.2 held m rest f) e
@@ -95,11 +95,11 @@ module _ (shape : Shape) (tags : ℕ) where
     ),
   )
 
-  record Fired (s : State) (choice : ℕ) (t : State) : Type 0 where
+  record Fired (s : CircuitState) (choice : ℕ) (t : CircuitState) : Type 0 where
     step : Step c s tagger (Fire choice) t
     acts : FiresTagger tags choice (s.slots tagger) step.taken step.given (t.slots tagger)
 
-  fired : (s : State) (n : Name) (choice : ℕ) (t : State) → Step c s n (Fire choice) t → Fired s choice t
+  fired : (s : CircuitState) (n : Name) (choice : ℕ) (t : CircuitState) → Step c s n (Fire choice) t → Fired s choice t
   fired s n choice t st =
       elim (each_node Sort (tagger_nodes shape tags) sorts n st.kind st.is_kind) [
         | inl none ↦ absurd (none choice (s.slots n) st.taken st.given (t.slots n) st.acts)
@@ -109,7 +109,7 @@ module _ (shape : Shape) (tags : ℕ) where
       ]
 
   -- before any result is fed: the slots wait, in the order of the tags that went to be worked on
-  record Waits (taken : List ℕ) (s : State) : Type 0 where
+  record Waits (taken : List ℕ) (s : CircuitState) : Type 0 where
     slots : s.slots tagger ≡ map waiting (taken ++ map tag_of (s.wires (first_port work)))
     differ : TagsDiffer (s.slots tagger)
     back : s.wires (second_port tagger) ≡ []
@@ -120,7 +120,7 @@ module _ (shape : Shape) (tags : ℕ) where
   none_finished (x ∷ ids) tag v new e =
       let z : waiting x ≡ finished tag v = cc in let r : None ≡ Some v = ap (λ (y : Slot). y.result) z in cc
 
-  waits_fired : (taken : List ℕ) (s : State) (choice : ℕ) (t : State) (st : Step c s tagger (Fire choice) t) →
+  waits_fired : (taken : List ℕ) (s : CircuitState) (choice : ℕ) (t : CircuitState) (st : Step c s tagger (Fire choice) t) →
       FiresTagger tags choice (s.slots tagger) st.taken st.given (t.slots tagger) → Waits taken s → Waits taken t
   waits_fired ids s zero t st (tag, v, eo, et, eg) w = absurd (none_finished (ids ++ map tag_of (s.wires (first_port work))) tag v (t.slots tagger) (sym w.slots ∙ eo))
   waits_fired ids s (suc zero) t st (tag, v, older, newer, eo, en, et, eg) w =
@@ -142,10 +142,10 @@ module _ (shape : Shape) (tags : ℕ) where
         results = st.gives (first_port results) ∙ (λ i. sym (st.takes (first_port results)) i ++ at_port (eg i) 2) ∙ append-nil (s.wires (first_port results)) ∙ w.results;
       }
 
-  waits_kept : (taken : List ℕ) (s : State) (n : Name) (choice : ℕ) (t : State) → Step c s n (Fire choice) t → Waits taken s → Waits taken t
+  waits_kept : (taken : List ℕ) (s : CircuitState) (n : Name) (choice : ℕ) (t : CircuitState) → Step c s n (Fire choice) t → Waits taken s → Waits taken t
   waits_kept taken s n choice t st w = let f = fired s n choice t st in waits_fired taken s choice t f.step f.acts w
 
-  waits_fed : (taken : List ℕ) (v : Token) (s t : State) → Step c s fresh (Feed v) t → Waits taken s → Waits taken t
+  waits_fed : (taken : List ℕ) (v : Token) (s t : CircuitState) → Step c s fresh (Feed v) t → Waits taken s → Waits taken t
   waits_fed taken v s t st w =
       let (fit, et, eg, en) = acts_at c s fresh (Feed v) t st (Entry shape) refl in
       let same : t.slots tagger ≡ s.slots tagger = st.others tagger (λ e. cc) in
@@ -157,7 +157,7 @@ module _ (shape : Shape) (tags : ℕ) where
         results = st.gives (first_port results) ∙ append-nil _ ∙ sym (st.takes (first_port results)) ∙ w.results;
       }
 
-  waits_taken : (taken : List ℕ) (tag : ℕ) (v : Token) (s t : State) → Step c s work (Take (tag ∷ v)) t → Waits taken s → Waits (taken ++ tag ∷ []) t
+  waits_taken : (taken : List ℕ) (tag : ℕ) (v : Token) (s t : CircuitState) → Step c s work (Take (tag ∷ v)) t → Waits taken s → Waits (taken ++ tag ∷ []) t
   waits_taken taken tag v s t st w =
       let (et, eg, en) = acts_at c s work (Take (tag ∷ v)) t st (Exit (tagged tags shape)) refl in
       let same : t.slots tagger ≡ s.slots tagger = st.others tagger (λ e. cc) in
@@ -174,13 +174,13 @@ module _ (shape : Shape) (tags : ℕ) where
       }
 
   -- the oldest slot waits, and no result of its tag is there
-  record Held (tag : ℕ) (s : State) : Type 0 where
+  record Held (tag : ℕ) (s : CircuitState) : Type 0 where
     newer : List Slot
     slots : s.slots tagger ≡ waiting tag ∷ newer
     back : AllByRecursion (λ v. tag_of v ≢ tag) (s.wires (second_port tagger))
     results : s.wires (first_port results) ≡ []
 
-  held_fired : (oldest : ℕ) (s : State) (choice : ℕ) (t : State) (st : Step c s tagger (Fire choice) t) →
+  held_fired : (oldest : ℕ) (s : CircuitState) (choice : ℕ) (t : CircuitState) (st : Step c s tagger (Fire choice) t) →
       FiresTagger tags choice (s.slots tagger) st.taken st.given (t.slots tagger) → Held oldest s → Held oldest t
   held_fired oldest s zero t st (tag, v, eo, et, eg) h =
       absurd (none_finished (oldest ∷ []) tag v [] (let z : waiting oldest ≡ finished tag v = some_first _ _ _ _ (sym h.slots ∙ eo) in ap (λ x. x ∷ []) z))
@@ -206,11 +206,11 @@ module _ (shape : Shape) (tags : ℕ) where
         results = st.gives (first_port results) ∙ (λ i. sym (st.takes (first_port results)) i ++ at_port (eg i) 2) ∙ append-nil (s.wires (first_port results)) ∙ h.results;
       }
 
-  held_kept : (oldest : ℕ) (s : State) (n : Name) (choice : ℕ) (t : State) → Step c s n (Fire choice) t → Held oldest s → Held oldest t
+  held_kept : (oldest : ℕ) (s : CircuitState) (n : Name) (choice : ℕ) (t : CircuitState) → Step c s n (Fire choice) t → Held oldest s → Held oldest t
   held_kept oldest s n choice t st h = let f = fired s n choice t st in held_fired oldest s choice t f.step f.acts h
 
   -- the result of the second token comes back
-  second_back : (first second : ℕ) (b : Token) (s t : State) → Step c s back (Feed (second ∷ b)) t → Waits (first ∷ second ∷ []) s → Held first t
+  second_back : (first second : ℕ) (b : Token) (s t : CircuitState) → Step c s back (Feed (second ∷ b)) t → Waits (first ∷ second ∷ []) s → Held first t
   second_back first second b s t st w =
       let (fit, et, eg, en) = acts_at c s back (Feed (second ∷ b)) t st (Entry (tagged tags shape)) refl in
       let differ : TagsDiffer (map waiting (first ∷ second ∷ map tag_of (s.wires (first_port work)))) = subst TagsDiffer w.slots w.differ in
@@ -222,7 +222,7 @@ module _ (shape : Shape) (tags : ℕ) where
         results = st.gives (first_port results) ∙ append-nil _ ∙ sym (st.takes (first_port results)) ∙ w.results;
       }
 
-  none_taken : (oldest : ℕ) (y : Token) (s t : State) → Step c s results (Take y) t → Held oldest s → ⊥
+  none_taken : (oldest : ℕ) (y : Token) (s t : CircuitState) → Step c s results (Take y) t → Held oldest s → ⊥
   none_taken oldest y s t st h =
       let (et, eg, en) = acts_at c s results (Take y) t st (Exit shape) refl in
       let some : [] ≡ y ∷ st.between (first_port results) =
@@ -238,7 +238,7 @@ module _ (shape : Shape) (tags : ℕ) where
         fed_at fresh v ∷ fed_at fresh u ∷ taken_at work (first ∷ v) ∷ taken_at work (second ∷ u) ∷
         fed_at back (second ∷ b) ∷ taken_at results y ∷ []
 
-    none_shown : (ms : List Move) (t : State) → Run c (start c) ms t → trace ms ≡ seen → ⊥
+    none_shown : (ms : List Move) (t : CircuitState) → Run c (start c) ms t → trace ms ≡ seen → ⊥
     none_shown ms t run e =
         let fed1 = first_seen c (Waits []) (waits_kept []) (start c) ms t run start_waits (fed_at fresh v) _ e in
         let fed2 = first_seen c (Waits []) (waits_kept []) fed1.after fed1.later t fed1.run (waits_fed [] v fed1.before fed1.after fed1.step fed1.held) (fed_at fresh u) _ fed1.shows in

@@ -10,7 +10,7 @@ use Rattle.components.specs.Lookups.{other_test}
 use Rattle.components.specs.Orders.{port_total, port_same, port_cases}
 use Rattle.circuits.specs.PortTokens.{Token}
 use Rattle.circuits.specs.Circuit.{circuit_of, kind_of}
-use Rattle.circuits.specs.State.{State, start, initial}
+use Rattle.circuits.specs.CircuitState.{CircuitState, start, initial}
 use Rattle.circuits.specs.Run.{Firing, Firings}
 use Rattle.circuits.specs.Buffers.{first_port}
 use Rattle.circuits.specs.Laws.{RestsWithoutInit}
@@ -74,13 +74,13 @@ module _ (shape : Shape) (ins outs : Name → List Token) where
         others = λ p k e no_exit. elsewhere p k (node shape p.node k e) no_exit;
       }
 
-  nothing_fires : (s t : State) (fs : List Firing) → Firings (wire shape) s fs t → s ≡ t
+  nothing_fires : (s t : CircuitState) (fs : List Firing) → Firings (wire shape) s fs t → s ≡ t
   nothing_fires s t [] run = run
   nothing_fires s t (f ∷ fs) run = absurd (no_fire shape s f.node f.choice run.0 run.1)
 
   to_itself : Drains (wire shape) ins outs → outs exit_name ≡ ins entry_name
   to_itself d =
-      sym (d.exits exit_name shape refl) ∙ ap (λ (s : State). s.wires (first_port exit_name)) (sym (nothing_fires (loaded (wire shape) ins) d.end d.firings d.leads))
+      sym (d.exits exit_name shape refl) ∙ ap (λ (s : CircuitState). s.wires (first_port exit_name)) (sym (nothing_fires (loaded (wire shape) ins) d.end d.firings d.leads))
 
 pub wire_drains : RestsWithoutInit → (shape : Shape) (ins outs : Name → List Token) → AllByRecursion (Fits shape) (ins entry_name) → outs exit_name ≡ ins entry_name → Drains (circuit_of (lone_wire shape)) ins outs
 wire_drains law shape ins outs fit same = subst (λ c. Drains c ins outs) (sym (is_wire shape)) (drains shape ins outs law fit same)

@@ -9,7 +9,7 @@ use Rattle.components.specs.Kind.{Shape, field, KindOk}
 use Rattle.components.specs.NamedGraph.{IsTyped}
 use Rattle.circuits.specs.PortTokens.{Token, single, one}
 use Rattle.circuits.specs.Circuit.{circuit_of}
-use Rattle.circuits.specs.State.{State}
+use Rattle.circuits.specs.CircuitState.{CircuitState}
 use Rattle.circuits.specs.Run.{Shows}
 use Rattle.circuits.specs.Buffers.{first_port}
 use Rattle.circuits.specs.Drains.{IsRest, Drains}
@@ -60,7 +60,7 @@ InitIsTyped = (value mark : ℕ) → KindOk (Init value mark) → IsTyped (lone_
 
 -- at rest the Init's value has passed the Buffer
 abbrev pub InitRests : Type 0
-InitRests = (value mark : ℕ) → (rest : State) × IsRest (circuit_of (lone_init value mark)) rest × (rest.wires (first_port out) ≡ one (single value))
+InitRests = (value mark : ℕ) → (rest : CircuitState) × IsRest (circuit_of (lone_init value mark)) rest × (rest.wires (first_port out) ≡ one (single value))
 
 -- it drains bits to the value followed by them, and to nothing else
 abbrev pub InitDrains : Type 0

@@ -1,12 +1,23 @@
-//! Worked examples of circuits: each shows that the definitions of the crate `circuits` are met where they should be, and refuse where they should refuse.
+//! Worked examples of circuits: the definitions of the crate `circuits` are met where they should be, and refuse where they
+//! should refuse.
 //!
-//! - `specs/LoneWire.antt`: an Entry wired to an Exit. It shows a token that is fed and then taken, and drains tokens to themselves.
+//! - `specs/LoneWire.antt`: an Entry wired to an Exit. It shows a token that is fed and then taken, and drains tokens to
+//!   themselves.
 //! - `specs/LoneTagger.antt`: a Tagger with an Entry or an Exit at each port. It gives results in the order of the tokens.
-//! - `specs/LoneInit.antt`: an Init with a Buffer behind it. Its value has passed the Buffer at rest, and leaves before what is put in.
-//! - `specs/Listed.antt`: the graph of a list of nodes and a list of wires. `proofs/Listed.antt` shows its circuit typed node by node and wire by wire, and is
-//!   public, for a crate above that wants an example of its own.
+//! - `specs/LoneInit.antt`: an Init with a Buffer behind it. Its value has passed the Buffer at rest, and leaves before what is
+//!   put in.
+//! - `specs/Listed.antt`: the graph of a list of nodes and a list of wires. The modules `Listed`, which shows such a graph
+//!   typed node by node and wire by wire, and `Deeds`, for runs that are written down, are public for further examples.
+//! - `specs/Laws.antt`: what the functions below prove.
 //!
-//! The crate has no calls: each function has laws of `specs/Laws.antt` for its contract, and its body names the laws of `circuits` that they rest on.
+//! An example is two lists:
+//!
+//! ```text
+//! nodes = record { name = codes "in"; kind = Entry shape } ∷ record { name = codes "out"; kind = Exit shape } ∷ []
+//! wires = record { source = first_port (codes "in"); target = first_port (codes "out") } ∷ []
+//! ```
+//!
+//! and `listed nodes wires` is its graph. No other crate stands on this one.
 #![tactic(auto)]
 
 ghost use Rattle.circuit_examples.specs.Laws.{WireIsTyped, WireShowsToken, WireShowsNoOther, WireDrains, TaggerIsTyped, TaggerShowsInOrder, TaggerShowsNoOther, InitIsTyped, InitRests, InitDrains};
@@ -29,8 +40,8 @@ pub fn wire_drains_tokens()
     one_rest();
 }
 
-/// A Tagger gives out two tokens with two tags, and the results leave in their order although the second comes back first;
-/// while the first is not back, none leaves.
+/// A Tagger gives out two tokens with two tags, and the results leave in their order although the second comes back first.
+/// While the first is not back, none leaves.
 pub fn tagger_shows_results()
     ensures typed { TaggerIsTyped }
     ensures in_order { TaggerShowsInOrder }

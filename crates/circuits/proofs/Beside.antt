@@ -8,25 +8,25 @@ use Rattle.components.specs.declared.kind.Kind.{Kind}
 use Rattle.components.specs.Name.{Name, Port}
 use Rattle.circuits.specs.PortTokens.{Token, share, share_from}
 use Rattle.circuits.specs.Circuit.{Circuit, kind_of, Typed}
-use Rattle.circuits.specs.State.{SlotFits, TagsDiffer, State, start, initial, IsStateOf}
+use Rattle.circuits.specs.CircuitState.{SlotFits, TagsDiffer, CircuitState, start, initial, IsStateOf}
 use Rattle.circuits.specs.Firing.{Label, Label.Feed, Label.Take, Label.Fire, Acts}
 use Rattle.circuits.specs.Run.{Step, Firing, Firings}
 use Rattle.circuits.specs.Plug.{Apart, beside, or_else}
 use Rattle.circuits.proofs.Steps.{share_other, append_none}
-use Rattle.circuits.proofs.Sim.{Inner, Sim, inner_then, inner_one, inner_none}
+use Rattle.circuits.proofs.Simulation.{Inner, Sim, inner_then, inner_one, inner_none}
 use Rattle.circuits.proofs.Fitting.{step_fits, start_fits, take_fits}
 
 -- s and t are alike at the nodes of c
-pub record Agree (c : Circuit) (s t : State) : Type 0 where
+pub record Agree (c : Circuit) (s t : CircuitState) : Type 0 where
   pub wires : (p : Port) (k : Kind) → c.kind_at p.node ≡ Some k → s.wires p ≡ t.wires p
   pub slots : (n : Name) (k : Kind) → c.kind_at n ≡ Some k → s.slots n ≡ t.slots n
 
 -- t is as s away from the nodes of c
-pub record Leaves (c : Circuit) (s t : State) : Type 0 where
+pub record Leaves (c : Circuit) (s t : CircuitState) : Type 0 where
   pub wires : (p : Port) → c.kind_at p.node ≡ None → t.wires p ≡ s.wires p
   pub slots : (n : Name) → c.kind_at n ≡ None → t.slots n ≡ s.slots n
 
-agree_sym : (c : Circuit) (s t : State) → Agree c s t → Agree c t s
+agree_sym : (c : Circuit) (s t : CircuitState) → Agree c s t → Agree c t s
 agree_sym c s t h = record { wires = λ p k e. sym (h.wires p k e); slots = λ n k e. sym (h.slots n k e) }
 
 apart_none_at : (c d : Circuit) → Apart c d → (n : Name) (k : Kind) → c.kind_at n ≡ Some k → (o : Option Kind) → d.kind_at n ≡ o → d.kind_at n ≡ None
@@ -53,7 +53,7 @@ elsewhere : (c : Circuit) (n : Name) (k : Kind) → c.kind_at n ≡ Some k → (
 elsewhere c n k e m f is = none_some (c.kind_at m) k f (ap c.kind_at is ∙ e)
 
 -- a step of c changes nothing away from c
-local : (c : Circuit) → Typed c → (s : State) (n : Name) (l : Label) (t : State) → Step c s n l t → Leaves c s t
+local : (c : Circuit) → Typed c → (s : CircuitState) (n : Name) (l : Label) (t : CircuitState) → Step c s n l t → Leaves c s t
 local c ty s n l t st =
     record {
       wires = λ p e.
@@ -67,8 +67,8 @@ abbrev pick : {A : Type 0} → Option Kind → A → A → A
 pick None x y = y
 pick (Some k) x y = x
 
-module _ (c : Circuit) (ty : Typed c) (s t : State) (n : Name) (l : Label) (u : State) (agree : Agree c s t) (st : Step c s n l u) where
-  framed : State
+module _ (c : Circuit) (ty : Typed c) (s t : CircuitState) (n : Name) (l : Label) (u : CircuitState) (agree : Agree c s t) (st : Step c s n l u) where
+  framed : CircuitState
   framed = record { wires = λ p. pick (c.kind_at p.node) (u.wires p) (t.wires p); slots = λ m. pick (c.kind_at m) (u.slots m) (t.slots m) }
 
   framed_takes : (p : Port) (o : Option Kind) → c.kind_at p.node ≡ o → t.wires p ≡ share n st.taken p ++ pick o (st.between p) (t.wires p)
@@ -116,13 +116,13 @@ module _ (c : Circuit) (ty : Typed c) (s t : State) (n : Name) (l : Label) (u : 
       }
 
 -- a step of c is made from each state that is alike at c, and stays within c
-pub record Framed (c : Circuit) (t : State) (n : Name) (l : Label) (u : State) : Type 0 where
-  pub to : State
+pub record Framed (c : Circuit) (t : CircuitState) (n : Name) (l : Label) (u : CircuitState) : Type 0 where
+  pub to : CircuitState
   pub step : Step c t n l to
   pub agree : Agree c u to
   pub leaves : Leaves c t to
 
-pub frame : (c : Circuit) → Typed c → (s t : State) (n : Name) (l : Label) (u : State) → Agree c s t → Step c s n l u → Framed c t n l u
+pub frame : (c : Circuit) → Typed c → (s t : CircuitState) (n : Name) (l : Label) (u : CircuitState) → Agree c s t → Step c s n l u → Framed c t n l u
 frame c ty s t n l u a st =
     record {
       to = framed c ty s t n l u a st;
@@ -131,7 +131,7 @@ frame c ty s t n l u a st =
       leaves = framed_leaves c ty s t n l u a st;
     }
 
-framed_firings : (c : Circuit) → Typed c → (s t : State) (fs : List Firing) (u : State) → Agree c s t → Firings c s fs u → (w : State) × Inner c t w × Agree c u w × Leaves c t w
+framed_firings : (c : Circuit) → Typed c → (s t : CircuitState) (fs : List Firing) (u : CircuitState) → Agree c s t → Firings c s fs u → (w : CircuitState) × Inner c t w × Agree c u w × Leaves c t w
 framed_firings c ty s t [] u a e =
     (t, inner_none c t, subst (λ x. Agree c x t) e a, record { wires = λ p h. refl; slots = λ m h. refl })
 framed_firings c ty s t (f ∷ fs) u a h =
@@ -163,7 +163,7 @@ share_right : (c d : Circuit) → Apart c d → Typed c → Typed d → (n : Nam
 share_right c d h tc td n k e side p = share_right_at c d h tc td n k e side p (c.feeder p) refl
 
 -- the same node of another circuit makes the same step, where it feeds the same
-pub moved : (c d : Circuit) (s : State) (n : Name) (l : Label) (t : State) (st : Step c s n l t) → d.kind_at n ≡ Some st.kind → ((p : Port) → share_from n st.given (c.feeder p) ≡ share_from n st.given (d.feeder p)) → Step d s n l t
+pub moved : (c d : Circuit) (s : CircuitState) (n : Name) (l : Label) (t : CircuitState) (st : Step c s n l t) → d.kind_at n ≡ Some st.kind → ((p : Port) → share_from n st.given (c.feeder p) ≡ share_from n st.given (d.feeder p)) → Step d s n l t
 moved c d s n l t st e h =
     record {
       kind = st.kind;
@@ -183,7 +183,7 @@ kind_left c d n k e = ap (λ o. or_else o (d.kind_at n)) e
 pub kind_right : (c d : Circuit) (n : Name) → c.kind_at n ≡ None → (beside c d).kind_at n ≡ d.kind_at n
 kind_right c d n e = ap (λ o. or_else o (d.kind_at n)) e
 
-module _ (c d : Circuit) (h : Apart c d) (tc : Typed c) (td : Typed d) (s : State) (n : Name) (l : Label) (t : State) where
+module _ (c d : Circuit) (h : Apart c d) (tc : Typed c) (td : Typed d) (s : CircuitState) (n : Name) (l : Label) (t : CircuitState) where
   pub step_left : Step c s n l t → Step (beside c d) s n l t
   step_left st = moved c (beside c d) s n l t st (kind_left c d n st.kind st.is_kind) (λ p. sym (share_left c d h td n st.kind st.is_kind st.given p))
 
@@ -203,11 +203,11 @@ module _ (c d : Circuit) (h : Apart c d) (tc : Typed c) (td : Typed d) (s : Stat
   pub step_of : Step (beside c d) s n l t → Step c s n l t ⊎ Step d s n l t
   step_of st = step_of_at (c.kind_at n) refl st
 
-firings_right : (c d : Circuit) → Apart c d → Typed c → Typed d → (s : State) (fs : List Firing) (t : State) → Firings d s fs t → Firings (beside c d) s fs t
+firings_right : (c d : Circuit) → Apart c d → Typed c → Typed d → (s : CircuitState) (fs : List Firing) (t : CircuitState) → Firings d s fs t → Firings (beside c d) s fs t
 firings_right c d h tc td s [] t e = e
 firings_right c d h tc td s (f ∷ fs) t k = (k.0, step_right c d h tc td s f.node (Fire f.choice) k.0 k.1, firings_right c d h tc td k.0 fs t k.2)
 
-inner_right : (c d : Circuit) → Apart c d → Typed c → Typed d → (s t : State) → Inner d s t → Inner (beside c d) s t
+inner_right : (c d : Circuit) → Apart c d → Typed c → Typed d → (s t : CircuitState) → Inner d s t → Inner (beside c d) s t
 inner_right c d h tc td s t k = record { firings = k.firings; leads = firings_right c d h tc td s k.firings t k.leads }
 
 -- the start of each is a part of the start
@@ -234,26 +234,26 @@ agree_right c d h tc td =
     }
 
 -- beside c, the states of h and g are related as they are alone, and c's parts are alike
-record Lifted (c h g : Circuit) (R : State → State → Type 0) (s t : State) : Type 0 where
-  sh : State
-  tg : State
+record Lifted (c h g : Circuit) (R : CircuitState → CircuitState → Type 0) (s t : CircuitState) : Type 0 where
+  sh : CircuitState
+  tg : CircuitState
   related : R sh tg
   on_new : Agree h s sh
   on_old : Agree g t tg
   on_c : Agree c s t
   fits : IsStateOf c s
 
-agree_leaves : (c d : Circuit) → Apart c d → (s u t w : State) → Agree c s t → Leaves d s u → Leaves d t w → Agree c u w
+agree_leaves : (c d : Circuit) → Apart c d → (s u t w : CircuitState) → Agree c s t → Leaves d s u → Leaves d t w → Agree c u w
 agree_leaves c d h s u t w a su tw =
     record {
       wires = λ p k e. let f = apart_none c d h p.node k e in su.wires p f ∙ a.wires p k e ∙ sym (tw.wires p f);
       slots = λ n k e. let f = apart_none c d h n k e in su.slots n f ∙ a.slots n k e ∙ sym (tw.slots n f);
     }
 
-leaves_none : (c : Circuit) (s : State) → Leaves c s s
+leaves_none : (c : Circuit) (s : CircuitState) → Leaves c s s
 leaves_none c s = record { wires = λ p e. refl; slots = λ n e. refl }
 
-agree_fits : (c : Circuit) (s u : State) → ((p : Port) (k : Kind) → c.kind_at p.node ≡ Some k → u.wires p ≡ s.wires p) → ((n : Name) (k : Kind) → c.kind_at n ≡ Some k → u.slots n ≡ s.slots n) → IsStateOf c s → IsStateOf c u
+agree_fits : (c : Circuit) (s u : CircuitState) → ((p : Port) (k : Kind) → c.kind_at p.node ≡ Some k → u.wires p ≡ s.wires p) → ((n : Name) (k : Kind) → c.kind_at n ≡ Some k → u.slots n ≡ s.slots n) → IsStateOf c s → IsStateOf c u
 agree_fits c s u w x h =
     record {
       wires = λ p k a e f. subst (AllByRecursion (Fits a)) (sym (w p k e)) (h.wires p k a e f);
@@ -261,9 +261,9 @@ agree_fits c s u w x h =
       tags = λ n k e. subst TagsDiffer (sym (x n k e)) (h.tags n k e);
     }
 
-module _ (c h g : Circuit) (ch : Apart c h) (cg : Apart c g) (tc : Typed c) (th : Typed h) (tg : Typed g) (R : State → State → Type 0) where
+module _ (c h g : Circuit) (ch : Apart c h) (cg : Apart c g) (tc : Typed c) (th : Typed h) (tg : Typed g) (R : CircuitState → CircuitState → Type 0) where
   -- a step of c
-  lift_c : ValueFits → (s t : State) (n : Name) (l : Label) (u : State) → Lifted c h g R s t → Step c s n l u → (w : State) × Step c t n l w × Lifted c h g R u w
+  lift_c : ValueFits → (s t : CircuitState) (n : Name) (l : Label) (u : CircuitState) → Lifted c h g R s t → Step c s n l u → (w : CircuitState) × Step c t n l w × Lifted c h g R u w
   lift_c values s t n l u lf st =
       let fr = frame c tc s t n l u lf.on_c st in (
         fr.to,
@@ -280,7 +280,7 @@ module _ (c h g : Circuit) (ch : Apart c h) (cg : Apart c g) (tc : Typed c) (th 
       )
 
   -- the new and the old have gone on
-  lift_both : (s t u w sh tg' : State) → Lifted c h g R s t → R sh tg' → Agree h u sh → Agree g w tg' → Leaves h s u → Leaves g t w → Lifted c h g R u w
+  lift_both : (s t u w sh tg' : CircuitState) → Lifted c h g R s t → R sh tg' → Agree h u sh → Agree g w tg' → Leaves h s u → Leaves g t w → Lifted c h g R u w
   lift_both s t u w sh tg' lf r ah ag lh lg =
       record {
         sh = sh;

@@ -10,7 +10,7 @@ use Rattle.components.specs.Name.{Name, Port, port_get}
 use Rattle.components.specs.Kind.{Shape, ins, outs}
 use Rattle.circuits.specs.PortTokens.{Token, one, share, share_from, at_port}
 use Rattle.circuits.specs.Circuit.{Circuit, kind_of, Typed}
-use Rattle.circuits.specs.State.{State, start, initial, SlotFits, TagsDiffer, IsStateOf}
+use Rattle.circuits.specs.CircuitState.{CircuitState, start, initial, SlotFits, TagsDiffer, IsStateOf}
 use Rattle.circuits.specs.Firing.{Label, Label.Take}
 use Rattle.circuits.specs.Run.{Step, Move, Run}
 use Rattle.circuits.proofs.Names.{name_cases}
@@ -20,7 +20,7 @@ use Rattle.circuits.proofs.Sides.{PortsFit, side_of, ports_of, Kept}
 use Rattle.circuits.proofs.Rows.{acts_fit, initial_fit}
 
 -- a step keeps a state
-module _ (values : ValueFits) (c : Circuit) (ty : Typed c) (s : State) (n : Name) (l : Label) (t : State) (st : Step c s n l t) (h : IsStateOf c s) where
+module _ (values : ValueFits) (c : Circuit) (ty : Typed c) (s : CircuitState) (n : Name) (l : Label) (t : CircuitState) (st : Step c s n l t) (h : IsStateOf c s) where
   taken_fits : PortsFit (ins st.kind) st.taken
   taken_fits i b e =
       let whole : AllByRecursion (Fits b) (s.wires (record { node = n; port = i })) = h.wires (record { node = n; port = i }) st.kind b st.is_kind e in
@@ -79,15 +79,15 @@ start_fit_at c ty p k a ek ea (Some q) f =
 pub start_fits : (c : Circuit) → Typed c → IsStateOf c (start c)
 start_fits c ty = record { wires = λ p k a ek ea. start_fit_at c ty p k a ek ea (c.feeder p) refl; slots = λ n k e. tt; tags = λ n k e. tt }
 
-pub run_fits : ValueFits → (c : Circuit) → Typed c → (s : State) (ms : List Move) (t : State) → Run c s ms t → IsStateOf c s → IsStateOf c t
+pub run_fits : ValueFits → (c : Circuit) → Typed c → (s : CircuitState) (ms : List Move) (t : CircuitState) → Run c s ms t → IsStateOf c s → IsStateOf c t
 run_fits values c ty s [] t run h = subst (IsStateOf c) run h
 run_fits values c ty s (m ∷ ms) t run h = run_fits values c ty run.0 ms t run.2 (step_fits values c ty s m.node m.label run.0 run.1 h)
 
-pub reached_fits : ValueFits → (c : Circuit) → Typed c → (ms : List Move) (t : State) → Run c (start c) ms t → IsStateOf c t
+pub reached_fits : ValueFits → (c : Circuit) → Typed c → (ms : List Move) (t : CircuitState) → Run c (start c) ms t → IsStateOf c t
 reached_fits values c ty ms t run = run_fits values c ty (start c) ms t run (start_fits c ty)
 
 -- what is taken fits
-pub take_fits : (c : Circuit) (s : State) (n : Name) (v : Token) (a : Shape) (t : State) → c.kind_at n ≡ Some (Exit a) → Step c s n (Take v) t → IsStateOf c s → Fits a v
+pub take_fits : (c : Circuit) (s : CircuitState) (n : Name) (v : Token) (a : Shape) (t : CircuitState) → c.kind_at n ≡ Some (Exit a) → Step c s n (Take v) t → IsStateOf c s → Fits a v
 take_fits c s n v a t e st h =
     let (et, eg, en) = acts_at c s n (Take v) t st (Exit a) e in
     let whole : AllByRecursion (Fits a) (s.wires (record { node = n; port = 1 })) = h.wires (record { node = n; port = 1 }) (Exit a) a e refl in

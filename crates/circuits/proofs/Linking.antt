@@ -8,28 +8,28 @@ use Rattle.components.specs.Kind.{Shape}
 use Rattle.components.specs.Orders.{same_bytes, other_bytes}
 use Rattle.circuits.specs.PortTokens.{Token, share, share_from, one}
 use Rattle.circuits.specs.Circuit.{Circuit, kind_of}
-use Rattle.circuits.specs.State.{State, start, initial}
+use Rattle.circuits.specs.CircuitState.{CircuitState, start, initial}
 use Rattle.circuits.specs.Firing.{Label, Label.Feed, Label.Take, Label.Fire, Acts}
 use Rattle.circuits.specs.Run.{Step, Firing, Firings}
-use Rattle.circuits.specs.Plug.{Link, link, redirect, as_buffer}
+use Rattle.circuits.specs.Plug.{PlugLink, link, redirect, as_buffer}
 use Rattle.circuits.proofs.Names.{name_cases}
 use Rattle.circuits.proofs.Steps.{acts_at, share_none, share_from_none, share_other, share_same, append_none}
-use Rattle.circuits.proofs.Sim.{Inner, Sim, inner_then, inner_one}
+use Rattle.circuits.proofs.Simulation.{Inner, Sim, inner_then, inner_one}
 
 -- what link asks of a circuit: an Exit and an Entry of one shape, and nothing is fed by the Exit
-pub record CanLink (l : Link) (c : Circuit) (a : Shape) : Type 0 where
+pub record CanLink (l : PlugLink) (c : Circuit) (a : Shape) : Type 0 where
   pub exit : c.kind_at l.exit ≡ Some (Exit a)
   pub entry : c.kind_at l.entry ≡ Some (Entry a)
   pub nothing : (p q : Port) → c.feeder p ≡ Some q → q.node ≢ l.exit
 
-pub apart : (l : Link) (c : Circuit) (a : Shape) → CanLink l c a → l.entry ≢ l.exit
+pub apart : (l : PlugLink) (c : Circuit) (a : Shape) → CanLink l c a → l.entry ≢ l.exit
 apart l c a h e = let k : Some (Entry a) ≡ Some (Exit a) = sym h.entry ∙ ap c.kind_at e ∙ h.exit in cc
 
 -- a step of another node is the same step
-pub kind_other : (l : Link) (c : Circuit) (n : Name) → n ≢ l.exit → n ≢ l.entry → (link l c).kind_at n ≡ c.kind_at n
+pub kind_other : (l : PlugLink) (c : Circuit) (n : Name) → n ≢ l.exit → n ≢ l.entry → (link l c).kind_at n ≡ c.kind_at n
 kind_other l c n hx he = rw (other_bytes n l.entry he, other_bytes n l.exit hx)
 
-redirect_other : (l : Link) (n : Name) (side : List (List Token)) (o : Option Port) → n ≢ l.exit → n ≢ l.entry → share_from n side (redirect l o) ≡ share_from n side o
+redirect_other : (l : PlugLink) (n : Name) (side : List (List Token)) (o : Option Port) → n ≢ l.exit → n ≢ l.entry → share_from n side (redirect l o) ≡ share_from n side o
 redirect_other l n side None hx he = refl
 redirect_other l n side (Some q) hx he =
     elim (name_cases q.node l.entry) [
@@ -37,7 +37,7 @@ redirect_other l n side (Some q) hx he =
       | inr other ↦ rw other.test
     ]
 
-pub step_linked : (l : Link) (c : Circuit) (s : State) (n : Name) (lab : Label) (t : State) → n ≢ l.exit → n ≢ l.entry → Step c s n lab t → Step (link l c) s n lab t
+pub step_linked : (l : PlugLink) (c : Circuit) (s : CircuitState) (n : Name) (lab : Label) (t : CircuitState) → n ≢ l.exit → n ≢ l.entry → Step c s n lab t → Step (link l c) s n lab t
 step_linked l c s n lab t hx he st =
     record {
       kind = st.kind;
@@ -51,7 +51,7 @@ step_linked l c s n lab t hx he st =
       others = st.others;
     }
 
-pub step_unlinked : (l : Link) (c : Circuit) (s : State) (n : Name) (lab : Label) (t : State) → n ≢ l.exit → n ≢ l.entry → Step (link l c) s n lab t → Step c s n lab t
+pub step_unlinked : (l : PlugLink) (c : Circuit) (s : CircuitState) (n : Name) (lab : Label) (t : CircuitState) → n ≢ l.exit → n ≢ l.entry → Step (link l c) s n lab t → Step c s n lab t
 step_unlinked l c s n lab t hx he st =
     record {
       kind = st.kind;
@@ -66,15 +66,15 @@ step_unlinked l c s n lab t hx he st =
     }
 
 -- the node of the link is a Buffer, and the Entry is gone
-pub kind_exit : (l : Link) (c : Circuit) (a : Shape) → CanLink l c a → (link l c).kind_at l.exit ≡ Some (Buffer a)
+pub kind_exit : (l : PlugLink) (c : Circuit) (a : Shape) → CanLink l c a → (link l c).kind_at l.exit ≡ Some (Buffer a)
 kind_exit l c a h =
     rw (other_bytes l.exit l.entry (λ e. apart l c a h (sym e)), same_bytes l.exit l.exit refl, h.exit)
 
-pub kind_entry : (l : Link) (c : Circuit) → (link l c).kind_at l.entry ≡ None
+pub kind_entry : (l : PlugLink) (c : Circuit) → (link l c).kind_at l.entry ≡ None
 kind_entry l c = rw (same_bytes l.entry l.entry refl)
 
 -- what the Buffer gives, the Entry fed
-redirect_link : (l : Link) (side : List (List Token)) (o : Option Port) → ((q : Port) → o ≡ Some q → q.node ≢ l.exit) → share_from l.exit side (redirect l o) ≡ share_from l.entry side o
+redirect_link : (l : PlugLink) (side : List (List Token)) (o : Option Port) → ((q : Port) → o ≡ Some q → q.node ≢ l.exit) → share_from l.exit side (redirect l o) ≡ share_from l.entry side o
 redirect_link l side None h = refl
 redirect_link l side (Some q) h =
     elim (name_cases q.node l.entry) [
@@ -82,13 +82,13 @@ redirect_link l side (Some q) h =
       | inr other ↦ rw other.test (share_other l.exit side q (h q refl))
     ]
 
-pub record Passes (l : Link) (c : Circuit) (s t : State) : Type 0 where
+pub record Passes (l : PlugLink) (c : Circuit) (s t : CircuitState) : Type 0 where
   pub token : Token
-  pub mid : State
+  pub mid : CircuitState
   pub takes : Step c s l.exit (Take token) mid
   pub feeds : Step c mid l.entry (Feed token) t
 
-taken_part : (l : Link) (c : Circuit) (a : Shape) (can : CanLink l c a) (s : State) (v : Token) (k : ℕ) (t : State) (st : Step (link l c) s l.exit (Fire k) t) → st.taken ≡ one v ∷ [] → Step c s l.exit (Take v) (record { wires = st.between; slots = s.slots })
+taken_part : (l : PlugLink) (c : Circuit) (a : Shape) (can : CanLink l c a) (s : CircuitState) (v : Token) (k : ℕ) (t : CircuitState) (st : Step (link l c) s l.exit (Fire k) t) → st.taken ≡ one v ∷ [] → Step c s l.exit (Take v) (record { wires = st.between; slots = s.slots })
 taken_part l c a can s v k t st e =
     record {
       kind = Exit a;
@@ -102,7 +102,7 @@ taken_part l c a can s v k t st e =
       others = λ m h. refl;
     }
 
-fed_part : (l : Link) (c : Circuit) (a : Shape) (can : CanLink l c a) (s : State) (v : Token) (k : ℕ) (t : State) (st : Step (link l c) s l.exit (Fire k) t) → Fits a v → st.given ≡ one v ∷ [] → t.slots l.exit ≡ s.slots l.exit → Step c (record { wires = st.between; slots = s.slots }) l.entry (Feed v) t
+fed_part : (l : PlugLink) (c : Circuit) (a : Shape) (can : CanLink l c a) (s : CircuitState) (v : Token) (k : ℕ) (t : CircuitState) (st : Step (link l c) s l.exit (Fire k) t) → Fits a v → st.given ≡ one v ∷ [] → t.slots l.exit ≡ s.slots l.exit → Step c (record { wires = st.between; slots = s.slots }) l.entry (Feed v) t
 fed_part l c a can s v k t st fit e same =
     record {
       kind = Entry a;
@@ -121,7 +121,7 @@ fed_part l c a can s v k t st fit e same =
     }
 
 -- a firing of the Buffer takes at the Exit and feeds the Entry
-pub passes_of : (l : Link) (c : Circuit) (a : Shape) → CanLink l c a → (s : State) (k : ℕ) (t : State) → ((v : Token) (m : State) → Step c s l.exit (Take v) m → Fits a v) → Step (link l c) s l.exit (Fire k) t → Passes l c s t
+pub passes_of : (l : PlugLink) (c : Circuit) (a : Shape) → CanLink l c a → (s : CircuitState) (k : ℕ) (t : CircuitState) → ((v : Token) (m : CircuitState) → Step c s l.exit (Take v) m → Fits a v) → Step (link l c) s l.exit (Fire k) t → Passes l c s t
 passes_of l c a can s k t fits st =
     let (v, zero_choice, taken, given, same) = acts_at (link l c) s l.exit (Fire k) t st (Buffer a) (kind_exit l c a can) in
     let first : Step c s l.exit (Take v) (record { wires = st.between; slots = s.slots }) = taken_part l c a can s v k t st taken in
@@ -133,7 +133,7 @@ passes_of l c a can s k t fits st =
     }
 
 -- to take at the Exit and to feed the Entry is a firing of the Buffer
-pub fires_of : (l : Link) (c : Circuit) (a : Shape) → CanLink l c a → (s : State) (v : Token) (m t : State) → Step c s l.exit (Take v) m → Step c m l.entry (Feed v) t → Step (link l c) s l.exit (Fire 0) t
+pub fires_of : (l : PlugLink) (c : Circuit) (a : Shape) → CanLink l c a → (s : CircuitState) (v : Token) (m t : CircuitState) → Step c s l.exit (Take v) m → Step c m l.entry (Feed v) t → Step (link l c) s l.exit (Fire 0) t
 fires_of l c a can s v m t st st2 =
     let (taken, given, same) = acts_at c s l.exit (Take v) m st (Exit a) can.exit in
     let (fit, taken2, given2, same2) = acts_at c m l.entry (Feed v) t st2 (Entry a) can.entry in
@@ -158,20 +158,20 @@ fires_of l c a can s v m t st st2 =
     }
 
 -- no other step is made by the two nodes
-no_entry_step : (l : Link) (c : Circuit) (s : State) (n : Name) (lab : Label) (t : State) → n ≡ l.entry → Step (link l c) s n lab t → ⊥
+no_entry_step : (l : PlugLink) (c : Circuit) (s : CircuitState) (n : Name) (lab : Label) (t : CircuitState) → n ≡ l.entry → Step (link l c) s n lab t → ⊥
 no_entry_step l c s n lab t is st = let e : None ≡ Some st.kind = sym (kind_entry l c) ∙ ap (link l c).kind_at (sym is) ∙ st.is_kind in cc
 
-exit_acts : (l : Link) (c : Circuit) (a : Shape) → CanLink l c a → (s : State) (n : Name) (lab : Label) (t : State) (st : Step (link l c) s n lab t) → n ≡ l.exit → Acts (Buffer a) lab (s.slots n) st.taken st.given (t.slots n)
+exit_acts : (l : PlugLink) (c : Circuit) (a : Shape) → CanLink l c a → (s : CircuitState) (n : Name) (lab : Label) (t : CircuitState) (st : Step (link l c) s n lab t) → n ≡ l.exit → Acts (Buffer a) lab (s.slots n) st.taken st.given (t.slots n)
 exit_acts l c a can s n lab t st is = acts_at (link l c) s n lab t st (Buffer a) (ap (link l c).kind_at is ∙ kind_exit l c a can)
 
 -- an Exit and an Entry do not fire
-pub no_exit_fire : (c : Circuit) (n : Name) (a : Shape) → c.kind_at n ≡ Some (Exit a) → (s : State) (k : ℕ) (t : State) → Step c s n (Fire k) t → ⊥
+pub no_exit_fire : (c : Circuit) (n : Name) (a : Shape) → c.kind_at n ≡ Some (Exit a) → (s : CircuitState) (k : ℕ) (t : CircuitState) → Step c s n (Fire k) t → ⊥
 no_exit_fire c n a e s k t st = acts_at c s n (Fire k) t st (Exit a) e
 
-pub no_entry_fire : (c : Circuit) (n : Name) (a : Shape) → c.kind_at n ≡ Some (Entry a) → (s : State) (k : ℕ) (t : State) → Step c s n (Fire k) t → ⊥
+pub no_entry_fire : (c : Circuit) (n : Name) (a : Shape) → c.kind_at n ≡ Some (Entry a) → (s : CircuitState) (k : ℕ) (t : CircuitState) → Step c s n (Fire k) t → ⊥
 no_entry_fire c n a e s k t st = acts_at c s n (Fire k) t st (Entry a) e
 
-firings_linked : (l : Link) (c : Circuit) (a : Shape) → CanLink l c a → (s : State) (fs : List Firing) (t : State) → Firings c s fs t → Firings (link l c) s fs t
+firings_linked : (l : PlugLink) (c : Circuit) (a : Shape) → CanLink l c a → (s : CircuitState) (fs : List Firing) (t : CircuitState) → Firings c s fs t → Firings (link l c) s fs t
 firings_linked l c a can s [] t h = h
 firings_linked l c a can s (f ∷ fs) t h = (
   h.0,
@@ -181,7 +181,7 @@ firings_linked l c a can s (f ∷ fs) t h = (
   firings_linked l c a can h.0 fs t h.2,
 )
 
-inner_linked : (l : Link) (c : Circuit) (a : Shape) → CanLink l c a → (s t : State) → Inner c s t → Inner (link l c) s t
+inner_linked : (l : PlugLink) (c : Circuit) (a : Shape) → CanLink l c a → (s t : CircuitState) → Inner c s t → Inner (link l c) s t
 inner_linked l c a can s t h = record { firings = h.firings; leads = firings_linked l c a can s h.firings t h.leads }
 
 -- a link changes nothing at the start
@@ -190,14 +190,14 @@ initial_as_buffer None = refl
 initial_as_buffer (Some (Exit a)) = refl
 initial_as_buffer (Some _) = refl
 
-initial_linked : (l : Link) (c : Circuit) (n : Name) → n ≢ l.entry → initial ((link l c).kind_at n) ≡ initial (c.kind_at n)
+initial_linked : (l : PlugLink) (c : Circuit) (n : Name) → n ≢ l.entry → initial ((link l c).kind_at n) ≡ initial (c.kind_at n)
 initial_linked l c n he =
     elim (name_cases n l.exit) [
       | inl is ↦ rw (other_bytes n l.entry he, is.test) (initial_as_buffer (c.kind_at n))
       | inr ne ↦ ap initial (kind_other l c n ne.is_not he)
     ]
 
-kind_redirected : (l : Link) (c : Circuit) (a : Shape) → CanLink l c a → (o : Option Port) → initial (kind_of (link l c) (redirect l o)) ≡ initial (kind_of c o)
+kind_redirected : (l : PlugLink) (c : Circuit) (a : Shape) → CanLink l c a → (o : Option Port) → initial (kind_of (link l c) (redirect l o)) ≡ initial (kind_of c o)
 kind_redirected l c a can None = refl
 kind_redirected l c a can (Some q) =
     elim (name_cases q.node l.entry) [
@@ -207,11 +207,11 @@ kind_redirected l c a can (Some q) =
           ∙ initial_linked l c q.node ne.is_not
     ]
 
-start_linked : (l : Link) (c : Circuit) (a : Shape) → CanLink l c a → start (link l c) ≡ start c
+start_linked : (l : PlugLink) (c : Circuit) (a : Shape) → CanLink l c a → start (link l c) ≡ start c
 start_linked l c a can = λ i. record { wires = λ p. kind_redirected l c a can (c.feeder p) i; slots = λ n. [] }
 
 -- what is linked alike is refined alike
-pub link_sim : (l : Link) (h g : Circuit) (a : Shape) → CanLink l h a → CanLink l g a → Sim h g → Sim (link l h) (link l g)
+pub link_sim : (l : PlugLink) (h g : Circuit) (a : Shape) → CanLink l h a → CanLink l g a → Sim h g → Sim (link l h) (link l g)
 link_sim l h g a hc gc sim =
     record {
       R = sim.R;

@@ -6,7 +6,7 @@ use Rattle.components.specs.Name.{Name, Port}
 use Rattle.components.specs.Orders.{same_bytes, other_bytes}
 use Rattle.circuits.specs.PortTokens.{Token, at_port, share, share_from}
 use Rattle.circuits.specs.Circuit.{Circuit}
-use Rattle.circuits.specs.State.{Slot, State}
+use Rattle.circuits.specs.CircuitState.{Slot, CircuitState}
 use Rattle.circuits.specs.Firing.{Label, Acts}
 use Rattle.circuits.specs.Run.{Step, Move, Run}
 use Rattle.circuits.proofs.Names.{name_cases}
@@ -22,10 +22,10 @@ pub record Deed : Type 0 where
   pub new : List Slot
 
 -- what is left of each wire, and the state after
-abbrev pub left : Deed → State → Port → List Token
+abbrev pub left : Deed → CircuitState → Port → List Token
 left d s p = drop (length (share d.node d.taken p)) (s.wires p)
 
-abbrev pub after : Circuit → State → Deed → State
+abbrev pub after : Circuit → CircuitState → Deed → CircuitState
 after c s d =
     record {
       wires = λ p. left d s p ++ share_from d.node d.given (c.feeder p);
@@ -48,12 +48,12 @@ stands_at wire (front ∷ fronts) h (suc zero) = h.0
 stands_at wire (front ∷ fronts) h (suc (suc i)) = stands_at (λ k. wire (suc k)) fronts h.1 (suc i)
 
 -- the node can do so
-pub record Can (c : Circuit) (s : State) (d : Deed) : Type 0 where
+pub record Can (c : Circuit) (s : CircuitState) (d : Deed) : Type 0 where
   pub is_kind : c.kind_at d.node ≡ Some d.kind
   pub acts : Acts d.kind d.label (s.slots d.node) d.taken d.given d.new
   pub stands : StandEach (λ i. s.wires (record { node = d.node; port = i })) d.taken
 
-module _ (c : Circuit) (s : State) (d : Deed) (can : Can c s d) where
+module _ (c : Circuit) (s : CircuitState) (d : Deed) (can : Can c s d) where
   front_left : (front wire : List Token) → Stands front wire → wire ≡ front ++ drop (length front) wire
   front_left front wire (behind, e) = e ∙ ap (λ z. front ++ z) (sym (ap (drop (length front)) e ∙ drop-append_seam front behind))
 
@@ -83,17 +83,17 @@ module _ (c : Circuit) (s : State) (d : Deed) (can : Can c s d) where
       }
 
 -- one after another
-abbrev pub CanAll : Circuit → State → List Deed → Type 0
+abbrev pub CanAll : Circuit → CircuitState → List Deed → Type 0
 CanAll c s [] = Unit {0}
 CanAll c s (d ∷ ds) = Can c s d × CanAll c (after c s d) ds
 
-abbrev pub after_all : Circuit → State → List Deed → State
+abbrev pub after_all : Circuit → CircuitState → List Deed → CircuitState
 after_all c s [] = s
 after_all c s (d ∷ ds) = after_all c (after c s d) ds
 
 abbrev pub moves_of : List Deed → List Move
 moves_of ds = map (λ d. record { node = d.node; label = d.label }) ds
 
-pub run_made : (c : Circuit) (s : State) (ds : List Deed) → CanAll c s ds → Run c s (moves_of ds) (after_all c s ds)
+pub run_made : (c : Circuit) (s : CircuitState) (ds : List Deed) → CanAll c s ds → Run c s (moves_of ds) (after_all c s ds)
 run_made c s [] can = refl
 run_made c s (d ∷ ds) can = (after c s d, step_made c s d can.0, run_made c (after c s d) ds can.1)

@@ -4,24 +4,24 @@ use Rattle.op_table.specs.Laws.{ValueFits}
 use Rattle.components.specs.Name.{Name}
 use Rattle.circuits.specs.PortTokens.{Token}
 use Rattle.circuits.specs.Circuit.{Circuit, Typed}
-use Rattle.circuits.specs.State.{State, start, IsStateOf}
+use Rattle.circuits.specs.CircuitState.{CircuitState, start, IsStateOf}
 use Rattle.circuits.specs.Firing.{Label.Feed, Label.Take, Label.Fire}
 use Rattle.circuits.specs.Run.{Step, move_of}
 use Rattle.circuits.specs.Refines.{SamePorts, Refines}
-use Rattle.circuits.proofs.Sim.{Inner, Sim}
+use Rattle.circuits.proofs.Simulation.{Inner, Sim}
 use Rattle.circuits.proofs.Fitting.{step_fits, run_fits, start_fits, take_fits}
 use Rattle.circuits.proofs.Refining.{sim_refines}
 
-pub inner_fits : ValueFits → (c : Circuit) → Typed c → (s t : State) → Inner c s t → IsStateOf c s → IsStateOf c t
+pub inner_fits : ValueFits → (c : Circuit) → Typed c → (s t : CircuitState) → Inner c s t → IsStateOf c s → IsStateOf c t
 inner_fits values c ty s t k h = run_fits values c ty s (map move_of k.firings) t k.leads h
 
 -- what the author of a rule shows: each step of the new circuit is matched in the old one, from states whose tokens fit
 pub record Matches (h g : Circuit) : Type 1 where
-  pub R : State → State → Type 0
+  pub R : CircuitState → CircuitState → Type 0
   pub begins : R (start h) (start g)
-  pub feeds : (s t u : State) (n : Name) (v : Token) → IsStateOf h s → IsStateOf g t → R s t → Step h s n (Feed v) u → (w : State) × Step g t n (Feed v) w × R u w
-  pub takes : (s t u : State) (n : Name) (v : Token) → IsStateOf h s → IsStateOf g t → R s t → Step h s n (Take v) u → (m w : State) × Inner g t m × Step g m n (Take v) w × R u w
-  pub fires : (s t u : State) (n : Name) (c : ℕ) → IsStateOf h s → IsStateOf g t → R s t → Step h s n (Fire c) u → (w : State) × Inner g t w × R u w
+  pub feeds : (s t u : CircuitState) (n : Name) (v : Token) → IsStateOf h s → IsStateOf g t → R s t → Step h s n (Feed v) u → (w : CircuitState) × Step g t n (Feed v) w × R u w
+  pub takes : (s t u : CircuitState) (n : Name) (v : Token) → IsStateOf h s → IsStateOf g t → R s t → Step h s n (Take v) u → (m w : CircuitState) × Inner g t m × Step g m n (Take v) w × R u w
+  pub fires : (s t u : CircuitState) (n : Name) (c : ℕ) → IsStateOf h s → IsStateOf g t → R s t → Step h s n (Fire c) u → (w : CircuitState) × Inner g t w × R u w
 
 pub sim_of : ValueFits → (h g : Circuit) → Typed h → Typed g → Matches h g → Sim h g
 sim_of values h g th tg m =

@@ -11,12 +11,11 @@ use Rattle.components.specs.Name.{Name, Port}
 use Rattle.components.specs.Kind.{Shape}
 use Rattle.circuits.specs.PortTokens.{Token, single, one, at_port, share, share_from}
 use Rattle.circuits.specs.Circuit.{Circuit}
-use Rattle.circuits.specs.State.{Slot, HasNoTag, TagsDiffer, State, IsStateOf}
+use Rattle.circuits.specs.CircuitState.{Slot, HasNoTag, TagsDiffer, CircuitState, IsStateOf}
 use Rattle.circuits.specs.Firing.{Label.Fire, FitEach, one_behind, Selects, FiresBranch, waiting, finished, FiresTagger, Fires}
 use Rattle.circuits.specs.Run.{Step}
 use Rattle.circuits.proofs.Names.{name_cases}
-use Rattle.circuits.proofs.Steps.{acts_at, share_same}
-use Rattle.circuits.proofs.Resting.{state_same}
+use Rattle.circuits.proofs.Steps.{acts_at, share_same, state_same}
 
 -- what is taken stands at the fronts of the input wires
 abbrev Stands : (ℕ → List Token) → List (List Token) → Type 0
@@ -217,8 +216,8 @@ module _ (wire : ℕ → List Token) (choice : ℕ) (old : List Slot) (differ : 
   fires_alike (Tagger a tags) x y = tagger_alike tags x y
 
 -- two firings of one node with one choice lead to one state
-module _ (c : Circuit) (s t u : State) (n : Name) (choice : ℕ) (state : IsStateOf c s) (a : Step c s n (Fire choice) t) (b : Step c s n (Fire choice) u) where
-  stands : (l : State) (st : Step c s n (Fire choice) l) → Stands (λ i. s.wires (record { node = n; port = i })) st.taken
+module _ (c : Circuit) (s t u : CircuitState) (n : Name) (choice : ℕ) (state : IsStateOf c s) (a : Step c s n (Fire choice) t) (b : Step c s n (Fire choice) u) where
+  stands : (l : CircuitState) (st : Step c s n (Fire choice) l) → Stands (λ i. s.wires (record { node = n; port = i })) st.taken
   stands l st i = (
     st.between (record { node = n; port = i }),
     st.takes (record { node = n; port = i }) ∙ ap (λ z. z ++ st.between (record { node = n; port = i })) (share_same n st.taken (record { node = n; port = i }) refl),

@@ -7,20 +7,20 @@ use Rattle.components.specs.declared.kind.Kind.TheVariants.{Entry, Exit}
 use Rattle.components.specs.Name.{Name, Port, port_get}
 use Rattle.components.specs.Kind.{Shape, outs}
 use Rattle.circuits.specs.Circuit.{Circuit, Typed}
-use Rattle.circuits.specs.Plug.{Link, link, link_all, redirect, plug, beside, or_else, Apart, Joins, UsesNoneTwice, CanPlug}
+use Rattle.circuits.specs.Plug.{PlugLink, link, link_all, redirect, plug, beside, or_else, Apart, Joins, UsesNoneTwice, CanPlug}
 use Rattle.circuits.specs.Refines.{SamePorts, Refines}
 use Rattle.circuits.proofs.Names.{name_cases}
-use Rattle.circuits.proofs.Sim.{Sim, sim_shows}
+use Rattle.circuits.proofs.Simulation.{Sim, sim_shows}
 use Rattle.circuits.proofs.Linking.{CanLink, link_sim, kind_other}
 use Rattle.circuits.proofs.Beside.{beside_sim, apart_none, apart_sym, kind_left, kind_right}
 
 -- a link of two circuits at once, at one shape
-pub record Both (l : Link) (x y : Circuit) : Type 0 where
+pub record Both (l : PlugLink) (x y : Circuit) : Type 0 where
   pub shape : Shape
   pub new : CanLink l x shape
   pub old : CanLink l y shape
 
-still_nothing_at : (l m : Link) (c : Circuit) (a : Shape) → CanLink m c a → m.exit ≢ l.exit → (p q : Port) (o : Option Port) → c.feeder p ≡ o → redirect l o ≡ Some q → q.node ≢ m.exit
+still_nothing_at : (l m : PlugLink) (c : Circuit) (a : Shape) → CanLink m c a → m.exit ≢ l.exit → (p q : Port) (o : Option Port) → c.feeder p ≡ o → redirect l o ≡ Some q → q.node ≢ m.exit
 still_nothing_at l m c a h ne p q None f e = let g : None ≡ Some q = e in cc
 still_nothing_at l m c a h ne p q (Some r) f e =
     elim (name_cases r.node l.entry) [
@@ -29,7 +29,7 @@ still_nothing_at l m c a h ne p q (Some r) f e =
     ]
 
 -- a link leaves the others
-pub still : (l m : Link) (c : Circuit) (a b : Shape) → CanLink l c a → CanLink m c b → m.exit ≢ l.exit → m.entry ≢ l.entry → CanLink m (link l c) b
+pub still : (l m : PlugLink) (c : Circuit) (a b : Shape) → CanLink l c a → CanLink m c b → m.exit ≢ l.exit → m.entry ≢ l.entry → CanLink m (link l c) b
 still l m c a b hl hm nx ne =
     record {
       exit = kind_other l c m.exit nx (λ e. let k : Some (Exit b) ≡ Some (Entry a) = sym hm.exit ∙ ap c.kind_at e ∙ hl.entry in cc) ∙ hm.exit;
@@ -37,7 +37,7 @@ still l m c a b hl hm nx ne =
       nothing = λ p q e. still_nothing_at l m c b hm nx p q (c.feeder p) refl e;
     }
 
-pub still_all : (l : Link) (x y : Circuit) → Both l x y → (ls : List Link) → AllByRecursion (λ m. (m.exit ≢ l.exit) × (m.entry ≢ l.entry)) ls → AllByRecursion (λ m. Both m x y) ls → AllByRecursion (λ m. Both m (link l x) (link l y)) ls
+pub still_all : (l : PlugLink) (x y : Circuit) → Both l x y → (ls : List PlugLink) → AllByRecursion (λ m. (m.exit ≢ l.exit) × (m.entry ≢ l.entry)) ls → AllByRecursion (λ m. Both m x y) ls → AllByRecursion (λ m. Both m (link l x) (link l y)) ls
 still_all l x y b [] n h = tt
 still_all l x y b (m ∷ ms) n h = (
   record {
@@ -48,7 +48,7 @@ still_all l x y b (m ∷ ms) n h = (
   still_all l x y b ms n.1 h.1,
 )
 
-pub link_all_sim : (ls : List Link) (x y : Circuit) → UsesNoneTwice ls → AllByRecursion (λ l. Both l x y) ls → Sim x y → Sim (link_all ls x) (link_all ls y)
+pub link_all_sim : (ls : List PlugLink) (x y : Circuit) → UsesNoneTwice ls → AllByRecursion (λ l. Both l x y) ls → Sim x y → Sim (link_all ls x) (link_all ls y)
 link_all_sim [] x y n h sim = sim
 link_all_sim (l ∷ ls) x y n h sim =
     link_all_sim ls (link l x) (link l y) n.1 (still_all l x y h.0 ls n.0 h.1) (link_sim l x y h.0.shape h.0.new h.0.old sim)
@@ -76,7 +76,7 @@ none_fed_right_at c d tc n e p q (Some r) f h g is =
     let w = tc.wires p r f in let k : None ≡ Some w.from = sym e ∙ ap c.kind_at (sym (ap (λ (x : Port). x.node) (same_Some r q g) ∙ is)) ∙ w.is_from in cc
 
 -- what joins c and g can be linked where they stand side by side
-pub joined_out : (c g : Circuit) (l : Link) → Apart c g → Typed c → Typed g → (j : Joins l c g) → CanLink l (beside c g) j.shape
+pub joined_out : (c g : Circuit) (l : PlugLink) → Apart c g → Typed c → Typed g → (j : Joins l c g) → CanLink l (beside c g) j.shape
 joined_out c g l ap_ tc tg j =
     record {
       exit = kind_left c g l.exit (Exit j.shape) j.exit;
@@ -84,7 +84,7 @@ joined_out c g l ap_ tc tg j =
       nothing = none_fed c g tg l.exit (apart_none c g ap_ l.exit (Exit j.shape) j.exit) (λ p r f. exit_feeds_none c tc l.exit j.shape j.exit p r f);
     }
 
-pub joined_in : (c g : Circuit) (l : Link) → Apart c g → Typed c → Typed g → (j : Joins l g c) → CanLink l (beside c g) j.shape
+pub joined_in : (c g : Circuit) (l : PlugLink) → Apart c g → Typed c → Typed g → (j : Joins l g c) → CanLink l (beside c g) j.shape
 joined_in c g l ap_ tc tg j =
     let none : c.kind_at l.exit ≡ None = apart_none g c (apart_sym c g ap_) l.exit (Exit j.shape) j.exit in
     record {
@@ -93,7 +93,7 @@ joined_in c g l ap_ tc tg j =
       nothing = λ p q e. none_fed_right_at c g tc l.exit none p q (c.feeder p) refl (λ r f. exit_feeds_none g tg l.exit j.shape j.exit p r f) e;
     }
 
-both_one : (c h g : Circuit) (l : Link) → Apart c h → Apart c g → Typed c → Typed h → Typed g → SamePorts h g → Joins l c h ⊎ Joins l h c → Both l (beside c h) (beside c g)
+both_one : (c h g : Circuit) (l : PlugLink) → Apart c h → Apart c g → Typed c → Typed h → Typed g → SamePorts h g → Joins l c h ⊎ Joins l h c → Both l (beside c h) (beside c g)
 both_one c h g l ch cg tc th tg same (inl j) =
     record {
       shape = j.shape;
@@ -107,11 +107,11 @@ both_one c h g l ch cg tc th tg same (inr j) =
       old = joined_in c g l cg tc tg (record { shape = j.shape; exit = (same.exits l.exit j.shape).0 j.exit; entry = j.entry });
     }
 
-both_all : (c h g : Circuit) → Apart c h → Apart c g → Typed c → Typed h → Typed g → SamePorts h g → (ls : List Link) → AllByRecursion (λ l. Joins l c h ⊎ Joins l h c) ls → AllByRecursion (λ l. Both l (beside c h) (beside c g)) ls
+both_all : (c h g : Circuit) → Apart c h → Apart c g → Typed c → Typed h → Typed g → SamePorts h g → (ls : List PlugLink) → AllByRecursion (λ l. Joins l c h ⊎ Joins l h c) ls → AllByRecursion (λ l. Both l (beside c h) (beside c g)) ls
 both_all c h g ch cg tc th tg same [] j = tt
 both_all c h g ch cg tc th tg same (l ∷ ls) j = (both_one c h g l ch cg tc th tg same j.0, both_all c h g ch cg tc th tg same ls j.1)
 
-pub plug_sim : ValueFits → (c h g : Circuit) (ls : List Link) → Typed c → Typed h → Typed g → SamePorts h g → CanPlug c ls h → Apart c g → Sim h g → Sim (plug c ls h) (plug c ls g)
+pub plug_sim : ValueFits → (c h g : Circuit) (ls : List PlugLink) → Typed c → Typed h → Typed g → SamePorts h g → CanPlug c ls h → Apart c g → Sim h g → Sim (plug c ls h) (plug c ls g)
 plug_sim values c h g ls tc th tg same can cg sim =
     link_all_sim ls (beside c h) (beside c g) can.once (both_all c h g can.apart cg tc th tg same ls can.joins) (beside_sim values c h g can.apart cg tc th tg sim)
 

@@ -5,10 +5,10 @@ use Rattle.components.specs.Name.{Name, Port}
 use Rattle.components.specs.Orders.{same_bytes, other_bytes}
 use Rattle.circuits.specs.PortTokens.{Token, share, share_from, at_port}
 use Rattle.circuits.specs.Circuit.{Circuit, kind_of, Typed}
-use Rattle.circuits.specs.State.{State, start, initial}
+use Rattle.circuits.specs.CircuitState.{CircuitState, start, initial}
 use Rattle.circuits.specs.Firing.{Label, Label.Feed, Label.Take, Label.Fire, Acts}
 use Rattle.circuits.specs.Run.{Step, Move, Run, trace, shown, Shows}
-use Rattle.circuits.specs.Plug.{Link, link, link_all, redirect, plug, beside, or_else, as_buffer}
+use Rattle.circuits.specs.Plug.{PlugLink, link, link_all, redirect, plug, beside, or_else, as_buffer}
 use Rattle.circuits.proofs.Names.{name_cases}
 use Rattle.circuits.proofs.Beside.{unfed}
 
@@ -29,7 +29,7 @@ fed_to x (Some p) = Some (port_to x p)
 abbrev pub renamed : Swap → Circuit → Circuit
 renamed x c = record { kind_at = λ n. c.kind_at (x.to n); feeder = λ p. fed_to x (c.feeder (port_to x p)) }
 
-abbrev pub state_to : Swap → State → State
+abbrev pub state_to : Swap → CircuitState → CircuitState
 state_to x s = record { wires = λ p. s.wires (port_to x p); slots = λ n. s.slots (x.to n) }
 
 abbrev pub move_to : Swap → Move → Move
@@ -39,10 +39,10 @@ abbrev pub moves_to : Swap → List Move → List Move
 moves_to x [] = []
 moves_to x (m ∷ ms) = move_to x m ∷ moves_to x ms
 
-abbrev pub link_to : Swap → Link → Link
+abbrev pub link_to : Swap → PlugLink → PlugLink
 link_to x l = record { exit = x.to l.exit; entry = x.to l.entry }
 
-abbrev pub links_to : Swap → List Link → List Link
+abbrev pub links_to : Swap → List PlugLink → List PlugLink
 links_to x [] = []
 links_to x (l ∷ ls) = link_to x l ∷ links_to x ls
 
@@ -67,7 +67,7 @@ share_from_to : (x : Swap) (n : Name) (side : List (List Token)) (o : Option Por
 share_from_to x n side None = refl
 share_from_to x n side (Some q) = ap (λ b. if b then at_port side q.port else []) (test_both x q.node n)
 
-step_to : (x : Swap) (c : Circuit) (s : State) (n : Name) (l : Label) (t : State) → Step c s n l t → Step (renamed x c) (state_to x s) (x.to n) l (state_to x t)
+step_to : (x : Swap) (c : Circuit) (s : CircuitState) (n : Name) (l : Label) (t : CircuitState) → Step c s n l t → Step (renamed x c) (state_to x s) (x.to n) l (state_to x t)
 step_to x c s n l t st =
     record {
       kind = st.kind;
@@ -81,7 +81,7 @@ step_to x c s n l t st =
       others = λ m h. st.others (x.to m) (λ e. h (sym (x.back m) ∙ ap x.to e));
     }
 
-run_to : (x : Swap) (c : Circuit) (s : State) (ms : List Move) (t : State) → Run c s ms t → Run (renamed x c) (state_to x s) (moves_to x ms) (state_to x t)
+run_to : (x : Swap) (c : Circuit) (s : CircuitState) (ms : List Move) (t : CircuitState) → Run c s ms t → Run (renamed x c) (state_to x s) (moves_to x ms) (state_to x t)
 run_to x c s [] t e = ap (state_to x) e
 run_to x c s (m ∷ ms) t h = (state_to x h.0, step_to x c s m.node m.label h.0 h.1, run_to x c h.0 ms t h.2)
 
@@ -121,7 +121,7 @@ or_else_to x (Some p) b = refl
 beside_to : (x : Swap) (c d : Circuit) → renamed x (beside c d) ≡ beside (renamed x c) (renamed x d)
 beside_to x c d = circuit_same _ _ (λ n. refl) (λ p. or_else_to x (c.feeder (port_to x p)) (d.feeder (port_to x p)))
 
-redirect_to : (x : Swap) (l : Link) (o : Option Port) → fed_to x (redirect l o) ≡ redirect (link_to x l) (fed_to x o)
+redirect_to : (x : Swap) (l : PlugLink) (o : Option Port) → fed_to x (redirect l o) ≡ redirect (link_to x l) (fed_to x o)
 redirect_to x l None = refl
 redirect_to x l (Some q) =
     elim (name_cases q.node l.entry) [
@@ -129,18 +129,18 @@ redirect_to x l (Some q) =
       | inr ne ↦ rw (test_both x q.node l.entry, ne.test)
     ]
 
-link_kind_to : (x : Swap) (l : Link) (c : Circuit) (n : Name) → (renamed x (link l c)).kind_at n ≡ (link (link_to x l) (renamed x c)).kind_at n
+link_kind_to : (x : Swap) (l : PlugLink) (c : Circuit) (n : Name) → (renamed x (link l c)).kind_at n ≡ (link (link_to x l) (renamed x c)).kind_at n
 link_kind_to x l c n =
     (λ i. if sym (test_to x n l.entry) i then None else (if sym (test_to x n l.exit) i then as_buffer (c.kind_at (x.to n)) else c.kind_at (x.to n)))
 
-link_renamed : (x : Swap) (l : Link) (c : Circuit) → renamed x (link l c) ≡ link (link_to x l) (renamed x c)
+link_renamed : (x : Swap) (l : PlugLink) (c : Circuit) → renamed x (link l c) ≡ link (link_to x l) (renamed x c)
 link_renamed x l c = circuit_same _ _ (link_kind_to x l c) (λ p. redirect_to x l (c.feeder (port_to x p)))
 
-link_all_to : (x : Swap) (ls : List Link) (c : Circuit) → renamed x (link_all ls c) ≡ link_all (links_to x ls) (renamed x c)
+link_all_to : (x : Swap) (ls : List PlugLink) (c : Circuit) → renamed x (link_all ls c) ≡ link_all (links_to x ls) (renamed x c)
 link_all_to x [] c = refl
 link_all_to x (l ∷ ls) c = link_all_to x ls (link l c) ∙ ap (link_all (links_to x ls)) (link_renamed x l c)
 
-pub plug_to : (x : Swap) (c : Circuit) (ls : List Link) (g : Circuit) → renamed x (plug c ls g) ≡ plug (renamed x c) (links_to x ls) (renamed x g)
+pub plug_to : (x : Swap) (c : Circuit) (ls : List PlugLink) (g : Circuit) → renamed x (plug c ls g) ≡ plug (renamed x c) (links_to x ls) (renamed x g)
 plug_to x c ls g = link_all_to x ls (beside c g) ∙ ap (link_all (links_to x ls)) (beside_to x c g)
 
 -- twice is not at all
@@ -158,7 +158,7 @@ pub moves_back : (x : Swap) (ms : List Move) → moves_to x (moves_to x ms) ≡ 
 moves_back x [] = refl
 moves_back x (m ∷ ms) = λ i. record { node = x.back m.node i; label = m.label } ∷ moves_back x ms i
 
-pub links_back : (x : Swap) (ls : List Link) → links_to x (links_to x ls) ≡ ls
+pub links_back : (x : Swap) (ls : List PlugLink) → links_to x (links_to x ls) ≡ ls
 links_back x [] = refl
 links_back x (l ∷ ls) = λ i. record { exit = x.back l.exit i; entry = x.back l.entry i } ∷ links_back x ls i
 

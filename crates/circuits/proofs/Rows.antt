@@ -15,7 +15,7 @@ use Rattle.components.specs.declared.kind.Kind.TheVariants.{Entry, Exit, Buffer,
 use Rattle.components.specs.Name.{port_get}
 use Rattle.components.specs.Kind.{Shape, field, ins, outs, KindOk}
 use Rattle.circuits.specs.PortTokens.{Token, single, one}
-use Rattle.circuits.specs.State.{Slot, SlotFits, TagsDiffer, initial}
+use Rattle.circuits.specs.CircuitState.{Slot, SlotFits, TagsDiffer, initial}
 use Rattle.circuits.specs.Firing.{Label, Label.Feed, Label.Take, Label.Fire, FitEach, one_behind, Selects, FiresBranch, Acts, Fires}
 use Rattle.circuits.proofs.Sides.{SideFits, Kept}
 use Rattle.circuits.proofs.TaggerRow.{tagger_fits}

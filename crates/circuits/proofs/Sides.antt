@@ -7,7 +7,7 @@ use Rattle.components.specs.declared.kind.Kind.{Kind}
 use Rattle.components.specs.Name.{port_get}
 use Rattle.components.specs.Kind.{Shape, outs}
 use Rattle.circuits.specs.PortTokens.{Token, at_port}
-use Rattle.circuits.specs.State.{Slot, SlotFits, TagsDiffer}
+use Rattle.circuits.specs.CircuitState.{Slot, SlotFits, TagsDiffer}
 
 -- what stands at each port of a side fits its shape: by port, and by recursion
 abbrev pub PortsFit : List Shape → List (List Token) → Type 0

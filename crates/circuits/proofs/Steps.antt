@@ -6,12 +6,12 @@ use Rattle.components.specs.Name.{Name, Port}
 use Rattle.components.specs.Orders.{same_bytes, other_bytes}
 use Rattle.circuits.specs.PortTokens.{Token, share, share_from, at_port}
 use Rattle.circuits.specs.Circuit.{Circuit}
-use Rattle.circuits.specs.State.{State}
+use Rattle.circuits.specs.CircuitState.{CircuitState}
 use Rattle.circuits.specs.Firing.{Label, Acts}
 use Rattle.circuits.specs.Run.{Step}
 
 -- a node acts as its kind does
-pub acts_at : (c : Circuit) (s : State) (n : Name) (l : Label) (t : State) (st : Step c s n l t) (k : Kind) → c.kind_at n ≡ Some k → Acts k l (s.slots n) st.taken st.given (t.slots n)
+pub acts_at : (c : Circuit) (s : CircuitState) (n : Name) (l : Label) (t : CircuitState) (st : Step c s n l t) (k : Kind) → c.kind_at n ≡ Some k → Acts k l (s.slots n) st.taken st.given (t.slots n)
 acts_at c s n l t st k e =
     subst (λ x. Acts x l (s.slots n) st.taken st.given (t.slots n)) (same_Some st.kind k (sym st.is_kind ∙ e)) st.acts
 
@@ -30,3 +30,7 @@ share_same n side p h = ap (λ b. if b then at_port side p.port else []) (same_b
 
 pub append_none : (xs ys : List Token) → ys ≡ [] → xs ≡ xs ++ ys
 append_none xs ys e = sym (append-nil xs) ∙ ap (λ z. xs ++ z) (sym e)
+
+-- two states are one where they hold the same
+pub state_same : (s t : CircuitState) → ((p : Port) → s.wires p ≡ t.wires p) → ((n : Name) → s.slots n ≡ t.slots n) → s ≡ t
+state_same s t ws xs = λ i. record { wires = λ p. ws p i; slots = λ n. xs n i }

@@ -5,7 +5,7 @@ use Rattle.components.specs.Name.{Name}
 use Rattle.components.specs.Kind.{Shape}
 use Rattle.circuits.specs.PortTokens.{Token}
 use Rattle.circuits.specs.Circuit.{Circuit}
-use Rattle.circuits.specs.State.{Slot, State, start}
+use Rattle.circuits.specs.CircuitState.{Slot, CircuitState, start}
 use Rattle.circuits.specs.Firing.{Label, Label.Feed, Label.Take, Label.Fire, waiting, finished, Acts}
 use Rattle.circuits.specs.Run.{Move, Run}
 use Rattle.circuits.specs.TaggerOrder.{tags_of, giving, tags_given, freeing, results_given}
@@ -34,8 +34,8 @@ one_firing shape tags (Fire (suc (suc tag))) old taken given new (v, below, none
     ∙ ap (drop count) (append_assoc (tags_of old) (tag ∷ []) later)
 
 module _ (c : Circuit) (n : Name) (shape : Shape) (tags : ℕ) (is_tagger : c.kind_at n ≡ Some (Tagger shape tags)) where
-  in_order : (s : State) (ms : List Move) (t : State) → Run c s ms t → tags_of (t.slots n) ≡ drop (results_given n ms) (tags_of (s.slots n) ++ tags_given n ms)
-  in_order s [] t run = sym (append-nil (tags_of (t.slots n))) ∙ ap (λ (z : State). tags_of (z.slots n) ++ []) (sym run)
+  in_order : (s : CircuitState) (ms : List Move) (t : CircuitState) → Run c s ms t → tags_of (t.slots n) ≡ drop (results_given n ms) (tags_of (s.slots n) ++ tags_given n ms)
+  in_order s [] t run = sym (append-nil (tags_of (t.slots n))) ∙ ap (λ (z : CircuitState). tags_of (z.slots n) ++ []) (sym run)
   in_order s (m ∷ ms) t run =
       in_order run.0 ms t run.2
       ∙ elim (name_cases m.node n) [
@@ -50,5 +50,5 @@ module _ (c : Circuit) (n : Name) (shape : Shape) (tags : ℕ) (is_tagger : c.ki
             ∙ ap (λ b. drop (if b then freeing m.label (results_given n ms) else results_given n ms) (tags_of (s.slots n) ++ (if b then giving m.label (tags_given n ms) else tags_given n ms))) (sym ne.test)
       ]
 
-  pub tagger_in_order : (ms : List Move) (t : State) → Run c (start c) ms t → tags_of (t.slots n) ≡ drop (results_given n ms) (tags_given n ms)
+  pub tagger_in_order : (ms : List Move) (t : CircuitState) → Run c (start c) ms t → tags_of (t.slots n) ≡ drop (results_given n ms) (tags_given n ms)
   tagger_in_order ms t run = in_order (start c) ms t run

@@ -6,7 +6,7 @@ use Rattle.port_types.specs.Tag.{tag_width, tag_width_from}
 use Rattle.components.specs.declared.kind.Kind.TheVariants.{Tagger}
 use Rattle.components.specs.Kind.{Shape, ins, outs}
 use Rattle.circuits.specs.PortTokens.{Token, one}
-use Rattle.circuits.specs.State.{Slot, SlotFits, HasNoTag, TagsDiffer}
+use Rattle.circuits.specs.CircuitState.{Slot, SlotFits, HasNoTag, TagsDiffer}
 use Rattle.circuits.specs.Firing.{waiting, finished, FiresTagger}
 use Rattle.circuits.proofs.Lists.{each_append, each_left, each_right}
 use Rattle.circuits.proofs.Sides.{SideFits, Kept}

@@ -10,7 +10,7 @@ use Rattle.components.specs.Name.{Name, Port}
 use Rattle.components.specs.Orders.{same_bytes, other_bytes}
 use Rattle.circuits.specs.Circuit.{Circuit, Typed}
 use Rattle.circuits.specs.Run.{Move, Shows}
-use Rattle.circuits.specs.Plug.{Link, plug, Apart, Joins, UsesNoneTwice, CanPlug}
+use Rattle.circuits.specs.Plug.{PlugLink, plug, Apart, Joins, UsesNoneTwice, CanPlug}
 use Rattle.circuits.specs.Refines.{SamePorts, Refines}
 use Rattle.circuits.proofs.Names.{name_cases}
 use Rattle.circuits.proofs.Renaming.{Swap, port_to, fed_to, renamed, moves_to, link_to, links_to, shows_to, plug_to, renamed_back, moves_back, links_back, renamed_fixed, to_inj}
@@ -50,29 +50,29 @@ typed_to x c ty =
     }
 
 -- what can be plugged can be plugged with other names outside
-joins_out : (x : Swap) (c g : Circuit) (l : Link) → ((n : Name) (k : Kind) → g.kind_at n ≡ Some k → x.to n ≡ n) → Joins l c g → Joins (link_to x l) (renamed x c) g
+joins_out : (x : Swap) (c g : Circuit) (l : PlugLink) → ((n : Name) (k : Kind) → g.kind_at n ≡ Some k → x.to n ≡ n) → Joins l c g → Joins (link_to x l) (renamed x c) g
 joins_out x c g l fixed j =
     record { shape = j.shape; exit = ap c.kind_at (x.back l.exit) ∙ j.exit; entry = ap g.kind_at (fixed l.entry (Entry j.shape) j.entry) ∙ j.entry }
 
-joins_in : (x : Swap) (c g : Circuit) (l : Link) → ((n : Name) (k : Kind) → g.kind_at n ≡ Some k → x.to n ≡ n) → Joins l g c → Joins (link_to x l) g (renamed x c)
+joins_in : (x : Swap) (c g : Circuit) (l : PlugLink) → ((n : Name) (k : Kind) → g.kind_at n ≡ Some k → x.to n ≡ n) → Joins l g c → Joins (link_to x l) g (renamed x c)
 joins_in x c g l fixed j =
     record { shape = j.shape; exit = ap g.kind_at (fixed l.exit (Exit j.shape) j.exit) ∙ j.exit; entry = ap c.kind_at (x.back l.entry) ∙ j.entry }
 
-joins_all : (x : Swap) (c g : Circuit) → ((n : Name) (k : Kind) → g.kind_at n ≡ Some k → x.to n ≡ n) → (ls : List Link) → AllByRecursion (λ l. Joins l c g ⊎ Joins l g c) ls → AllByRecursion (λ l. Joins l (renamed x c) g ⊎ Joins l g (renamed x c)) (links_to x ls)
+joins_all : (x : Swap) (c g : Circuit) → ((n : Name) (k : Kind) → g.kind_at n ≡ Some k → x.to n ≡ n) → (ls : List PlugLink) → AllByRecursion (λ l. Joins l c g ⊎ Joins l g c) ls → AllByRecursion (λ l. Joins l (renamed x c) g ⊎ Joins l g (renamed x c)) (links_to x ls)
 joins_all x c g fixed [] h = tt
 joins_all x c g fixed (l ∷ ls) h =
     (elim h.0 [ inl j ↦ inl (joins_out x c g l fixed j) | inr j ↦ inr (joins_in x c g l fixed j) ], joins_all x c g fixed ls h.1)
 
-apart_links : (x : Swap) (l : Link) (ls : List Link) → AllByRecursion (λ m. (m.exit ≢ l.exit) × (m.entry ≢ l.entry)) ls → AllByRecursion (λ m. (m.exit ≢ x.to l.exit) × (m.entry ≢ x.to l.entry)) (links_to x ls)
+apart_links : (x : Swap) (l : PlugLink) (ls : List PlugLink) → AllByRecursion (λ m. (m.exit ≢ l.exit) × (m.entry ≢ l.entry)) ls → AllByRecursion (λ m. (m.exit ≢ x.to l.exit) × (m.entry ≢ x.to l.entry)) (links_to x ls)
 apart_links x l [] h = tt
 apart_links x l (m ∷ ms) h =
     (((λ e. h.0.0 (to_inj x m.exit l.exit e)), (λ e. h.0.1 (to_inj x m.entry l.entry e))), apart_links x l ms h.1)
 
-pub once_to : (x : Swap) (ls : List Link) → UsesNoneTwice ls → UsesNoneTwice (links_to x ls)
+pub once_to : (x : Swap) (ls : List PlugLink) → UsesNoneTwice ls → UsesNoneTwice (links_to x ls)
 once_to x [] h = tt
 once_to x (l ∷ ls) h = (apart_links x l ls h.0, once_to x ls h.1)
 
-plug_can : (x : Swap) (c g : Circuit) (ls : List Link) → ((n : Name) (k : Kind) → g.kind_at n ≡ Some k → x.to n ≡ n) → CanPlug c ls g → CanPlug (renamed x c) (links_to x ls) g
+plug_can : (x : Swap) (c g : Circuit) (ls : List PlugLink) → ((n : Name) (k : Kind) → g.kind_at n ≡ Some k → x.to n ≡ n) → CanPlug c ls g → CanPlug (renamed x c) (links_to x ls) g
 plug_can x c g ls fixed can =
     record {
       apart = λ n k m e f. can.apart n k m (ap c.kind_at (sym (fixed n m f)) ∙ e) f;
@@ -193,7 +193,7 @@ module _ (c : Circuit) (size : ℕ) (short : (n : Name) (k : Kind) → c.kind_at
       let same : length (zeros ++ away n) ≡ length n = ap length long in
       omega (arith, same, zeros_long (away n))
 
-pub joins_same : (c h g : Circuit) → SamePorts h g → (ls : List Link) → AllByRecursion (λ l. Joins l c h ⊎ Joins l h c) ls → AllByRecursion (λ l. Joins l c g ⊎ Joins l g c) ls
+pub joins_same : (c h g : Circuit) → SamePorts h g → (ls : List PlugLink) → AllByRecursion (λ l. Joins l c h ⊎ Joins l h c) ls → AllByRecursion (λ l. Joins l c g ⊎ Joins l g c) ls
 joins_same c h g same [] j = tt
 joins_same c h g same (l ∷ ls) j = (
   elim j.0 [
@@ -203,7 +203,7 @@ joins_same c h g same (l ∷ ls) j = (
   joins_same c h g same ls j.1,
 )
 
-pub plug_same : (c h g : Circuit) (ls : List Link) → SamePorts h g → CanPlug c ls h → Apart c g → CanPlug c ls g
+pub plug_same : (c h g : Circuit) (ls : List PlugLink) → SamePorts h g → CanPlug c ls h → Apart c g → CanPlug c ls g
 plug_same c h g ls same can cg = record { apart = cg; joins = joins_same c h g same ls can.joins; once = can.once }
 
 pub ports_then : (h g f : Circuit) → SamePorts h g → SamePorts g f → SamePorts h f
@@ -227,8 +227,8 @@ abbrev pub IsLong : ℕ → Circuit → Type 0
 IsLong bound c = (n : Name) (k : Kind) → c.kind_at n ≡ Some k → bound ≤ length n
 
 module _ (h g : Circuit) (th : Typed h) (tg : Typed g) (bound : ℕ)
-    (claim : (c : Circuit) (ls : List Link) (tr : List Move) → Typed c → CanPlug c ls h → CanPlug c ls g → IsLong bound c → Shows (plug c ls h) tr → Shows (plug c ls g) tr)
-    (c : Circuit) (ls : List Link) (tr : List Move) (tc : Typed c) (ch : CanPlug c ls h) (cg : CanPlug c ls g) where
+    (claim : (c : Circuit) (ls : List PlugLink) (tr : List Move) → Typed c → CanPlug c ls h → CanPlug c ls g → IsLong bound c → Shows (plug c ls h) tr → Shows (plug c ls g) tr)
+    (c : Circuit) (ls : List PlugLink) (tr : List Move) (tc : Typed c) (ch : CanPlug c ls h) (cg : CanPlug c ls g) where
   size : ℕ
   size = tc.names.0 + (th.names.0 + (tg.names.0 + bound))
 
@@ -276,7 +276,7 @@ module _ (h g : Circuit) (th : Typed h) (tg : Typed g) (bound : ℕ)
       (subst (λ z. Shows z (moves_to x (moves_to x tr))) back_again (shows_to x (plug (renamed x c) (links_to x ls) g) (moves_to x tr) last))
 
 -- circuits with long names alone suffice as surroundings
-pub refines_of_long : (h g : Circuit) → Typed h → Typed g → SamePorts h g → (bound : ℕ) → ((c : Circuit) (ls : List Link) (tr : List Move) → Typed c → CanPlug c ls h → CanPlug c ls g → IsLong bound c → Shows (plug c ls h) tr → Shows (plug c ls g) tr) → Refines h g
+pub refines_of_long : (h g : Circuit) → Typed h → Typed g → SamePorts h g → (bound : ℕ) → ((c : Circuit) (ls : List PlugLink) (tr : List Move) → Typed c → CanPlug c ls h → CanPlug c ls g → IsLong bound c → Shows (plug c ls h) tr → Shows (plug c ls g) tr) → Refines h g
 refines_of_long h g th tg same bound claim =
     record { new_typed = th; old_typed = tg; ports = same; shows = λ c ls tr tc ch cg sh. long_shows h g th tg bound claim c ls tr tc ch cg sh }
 

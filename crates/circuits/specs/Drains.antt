@@ -8,7 +8,7 @@ use Rattle.components.specs.Name.{Name, Port}
 use Rattle.components.specs.Kind.{Shape}
 use Rattle.circuits.specs.PortTokens.{Token}
 use Rattle.circuits.specs.Circuit.{Circuit}
-use Rattle.circuits.specs.State.{State, start}
+use Rattle.circuits.specs.CircuitState.{CircuitState, start}
 use Rattle.circuits.specs.Firing.{Label.Fire}
 use Rattle.circuits.specs.Run.{Step, Firing, Firings}
 use Rattle.circuits.specs.Buffers.{first_port}
@@ -35,11 +35,11 @@ pub record Led (c : Circuit) (n : Name) : Type 0 where
   pub comes : ComesFromInit c (first_port n)
 
 -- from the start the led nodes alone have fired, until none of them can
-pub record IsRest (c : Circuit) (s : State) : Type 0 where
+pub record IsRest (c : Circuit) (s : CircuitState) : Type 0 where
   pub firings : List Firing
   pub led : AllByRecursion (λ f. Led c f.node) firings
   pub leads : Firings c (start c) firings s
-  pub ends : (n : Name) (choice : ℕ) (t : State) → Led c n → ¬ (Step c s n (Fire choice) t)
+  pub ends : (n : Name) (choice : ℕ) (t : CircuitState) → Led c n → ¬ (Step c s n (Fire choice) t)
 
 -- what is put on a wire that node n feeds, by the kind of n
 abbrev pub put_by : (Name → List Token) → Option Kind → Name → List Token
@@ -52,7 +52,7 @@ put_on c ins None = []
 put_on c ins (Some q) = put_by ins (c.kind_at q.node) q.node
 
 -- the start, with tokens put behind on the wires that Entries feed
-abbrev pub loaded : Circuit → (Name → List Token) → State
+abbrev pub loaded : Circuit → (Name → List Token) → CircuitState
 loaded c ins = record { wires = λ p. (start c).wires p ++ put_on c ins (c.feeder p); slots = (start c).slots }
 
 -- any kind but an Exit
@@ -64,10 +64,10 @@ IsNoExit _ = Unit {0}
 pub record Drains (c : Circuit) (ins outs : Name → List Token) : Type 0 where
   pub fit_in : (n : Name) (a : Shape) → c.kind_at n ≡ Some (Entry a) → AllByRecursion (Fits a) (ins n)
   pub fit_out : (n : Name) (a : Shape) → c.kind_at n ≡ Some (Exit a) → AllByRecursion (Fits a) (outs n)
-  pub rest : State
+  pub rest : CircuitState
   pub is_rest : IsRest c rest
   pub firings : List Firing
-  pub end : State
+  pub end : CircuitState
   pub leads : Firings c (loaded c ins) firings end
   pub slots : (n : Name) (k : Kind) → c.kind_at n ≡ Some k → end.slots n ≡ []
   pub exits : (n : Name) (a : Shape) → c.kind_at n ≡ Some (Exit a) → end.wires (first_port n) ≡ outs n

@@ -7,7 +7,7 @@ use Rattle.components.specs.declared.kind.Kind.{Kind}
 use Rattle.components.specs.declared.kind.Kind.TheVariants.{Entry, Exit, Buffer, Fork, Join, Split, Operator, Constant, Source0, Sink0, Mux, Branch, Merge, CtrlMerge, Init, Tagger}
 use Rattle.components.specs.Kind.{Shape}
 use Rattle.circuits.specs.PortTokens.{Token, single, one}
-use Rattle.circuits.specs.State.{Slot, HasNoTag}
+use Rattle.circuits.specs.CircuitState.{Slot, HasNoTag}
 
 -- a token is fed to a node or taken from it, or the node fires, with a choice where it has several
 pub data Label : Type 0 where

@@ -7,11 +7,11 @@ use Rattle.components.specs.Kind.{Shape}
 use Rattle.components.specs.NamedGraph.{NamedGraph, IsTyped}
 use Rattle.circuits.specs.PortTokens.{Token}
 use Rattle.circuits.specs.Circuit.{Circuit, Typed, circuit_of}
-use Rattle.circuits.specs.State.{State, start, IsStateOf}
+use Rattle.circuits.specs.CircuitState.{CircuitState, start, IsStateOf}
 use Rattle.circuits.specs.Firing.{Label, Label.Fire}
 use Rattle.circuits.specs.Run.{Step, Move, Run, Shows}
 use Rattle.circuits.specs.TaggerOrder.{tags_of, tags_given, results_given}
-use Rattle.circuits.specs.Plug.{Link, plug, CanPlug}
+use Rattle.circuits.specs.Plug.{PlugLink, plug, Apart, CanPlug}
 use Rattle.circuits.specs.Refines.{Refines}
 use Rattle.circuits.specs.Buffers.{first_port, drop_node, CanDropBuffer, IsWithoutBuffer}
 use Rattle.circuits.specs.Root.{Root}
@@ -24,20 +24,20 @@ StartIsState = (c : Circuit) → Typed c → IsStateOf c (start c)
 -- and it fits after each step
 abbrev pub StepKeepsState : Type 0
 StepKeepsState = (c : Circuit) → Typed c →
-    (s : State) (n : Name) (l : Label) (t : State) → Step c s n l t → IsStateOf c s → IsStateOf c t
+    (s : CircuitState) (n : Name) (l : Label) (t : CircuitState) → Step c s n l t → IsStateOf c s → IsStateOf c t
 
 -- so what a run from the start reaches is a state of the circuit
 abbrev pub RunReachesState : Type 0
-RunReachesState = (c : Circuit) → Typed c → (ms : List Move) (t : State) → Run c (start c) ms t → IsStateOf c t
+RunReachesState = (c : Circuit) → Typed c → (ms : List Move) (t : CircuitState) → Run c (start c) ms t → IsStateOf c t
 
 -- a firing, with its choice, leads to one state
 abbrev pub FiringIsOne : Type 0
-FiringIsOne = (c : Circuit) (s t u : State) (n : Name) (choice : ℕ) → IsStateOf c s → Step c s n (Fire choice) t → Step c s n (Fire choice) u → t ≡ u
+FiringIsOne = (c : Circuit) (s t u : CircuitState) (n : Name) (choice : ℕ) → IsStateOf c s → Step c s n (Fire choice) t → Step c s n (Fire choice) u → t ≡ u
 
 -- after any run the tags in the slots of a Tagger are those that it gave out, in this order, without as many of the first as it gave results
 abbrev pub TaggerKeepsOrder : Type 0
 TaggerKeepsOrder = (c : Circuit) (n : Name) (shape : Shape) (tags : ℕ) → c.kind_at n ≡ Some (Tagger shape tags) →
-    (ms : List Move) (t : State) → Run c (start c) ms t → tags_of (t.slots n) ≡ drop (results_given n ms) (tags_given n ms)
+    (ms : List Move) (t : CircuitState) → Run c (start c) ms t → tags_of (t.slots n) ≡ drop (results_given n ms) (tags_given n ms)
 
 -- a typed circuit refines itself
 abbrev pub RefinesItself : Type 0
@@ -53,13 +53,13 @@ RefinesAlone = (new old : Circuit) → Refines new old → (tr : List Move) → 
 
 -- a plugged circuit is typed
 abbrev pub PlugIsTyped : Type 0
-PlugIsTyped = (c : Circuit) (ls : List Link) (g : Circuit) → Typed c → Typed g → CanPlug c ls g →
+PlugIsTyped = (c : Circuit) (ls : List PlugLink) (g : Circuit) → Typed c → Typed g → CanPlug c ls g →
     Typed (plug c ls g)
 
--- a circuit refined in a part is refined
+-- a circuit refined in a part is refined, where the names of the new part are apart from those of the rest
 abbrev pub WholeRefines : Type 0
-WholeRefines = (rest new old : Circuit) (ls : List Link) → Typed rest →
-    CanPlug rest ls new → CanPlug rest ls old → Refines new old → Refines (plug rest ls new) (plug rest ls old)
+WholeRefines = (rest new old : Circuit) (ls : List PlugLink) → Typed rest → CanPlug rest ls old → Apart rest new →
+    Refines new old → Refines (plug rest ls new) (plug rest ls old)
 
 -- without a Buffer a circuit shows nothing new
 abbrev pub DropRefines : Type 0
@@ -98,11 +98,11 @@ RingHasNoRoot = (c : Circuit) (b : Name) (shape : Shape) (q : Port) →
 
 -- there is at most one rest state, whatever the order in which the led nodes fire
 abbrev pub RestIsOne : Type 0
-RestIsOne = (c : Circuit) (r s : State) → IsRest c r → IsRest c s → r ≡ s
+RestIsOne = (c : Circuit) (r s : CircuitState) → IsRest c r → IsRest c s → r ≡ s
 
 -- a graph, which has finitely many nodes, has one
 abbrev pub GraphRests : Type 0
-GraphRests = (g : NamedGraph) → (rest : State) × IsRest (circuit_of g) rest
+GraphRests = (g : NamedGraph) → (rest : CircuitState) × IsRest (circuit_of g) rest
 
 -- with no Init the start is at rest
 abbrev pub RestsWithoutInit : Type 0

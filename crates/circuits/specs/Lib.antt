@@ -1,6 +1,6 @@
 pub mod PortTokens
 pub mod Circuit
-pub mod State
+pub mod CircuitState
 pub mod Firing
 pub mod Run
 pub mod Plug

@@ -5,7 +5,7 @@ use Rattle.components.specs.Name.{Name}
 use Rattle.components.specs.Kind.{Shape}
 use Rattle.circuits.specs.Circuit.{Circuit, Typed}
 use Rattle.circuits.specs.Run.{Move, Shows}
-use Rattle.circuits.specs.Plug.{Link, plug, CanPlug}
+use Rattle.circuits.specs.Plug.{PlugLink, plug, CanPlug}
 
 -- the same Entries and Exits, with the same shapes
 pub record SamePorts (h g : Circuit) : Type 0 where
@@ -17,5 +17,5 @@ pub record Refines (h g : Circuit) : Type 0 where
   pub new_typed : Typed h
   pub old_typed : Typed g
   pub ports : SamePorts h g
-  pub shows : (c : Circuit) (ls : List Link) (tr : List Move) → Typed c → CanPlug c ls h → CanPlug c ls g →
+  pub shows : (c : Circuit) (ls : List PlugLink) (tr : List Move) → Typed c → CanPlug c ls h → CanPlug c ls g →
       Shows (plug c ls h) tr → Shows (plug c ls g) tr

@@ -1,7 +1,7 @@
 -- What a Tagger does in a run: the tags that it gives out, and how many of them come free again.
 use Rattle.std.specs.Prelude.{ℕ, zero, suc, List, [], ◌∷◌, map, if◌then◌else◌, bytes_eq}
 use Rattle.components.specs.Name.{Name}
-use Rattle.circuits.specs.State.{Slot}
+use Rattle.circuits.specs.CircuitState.{Slot}
 use Rattle.circuits.specs.Firing.{Label, Label.Fire}
 use Rattle.circuits.specs.Run.{Move}
 

@@ -1,13 +1,38 @@
-//! What circuits do: their states and steps, what is seen of a run, when one circuit refines another, and what a circuit drains.
+//! What circuits do, as definitions, and laws about it. There are no calls here: a circuit is two functions, what node a
+//! name is and what feeds an input, so a graph by names stands for one, and so does a part of it with a surrounding circuit.
 //!
-//! The crate has definitions and laws, and no calls: each function has a law of `specs/` for its contract, and a body that is empty or calls laws of a lower crate.
+//! The definitions, in `specs/`:
+//!
+//! - `Circuit`: circuits, the circuit of a graph, and typed ones. `Plug`: a circuit in a surrounding one, by links.
+//! - `CircuitState`, `PortTokens`, `Firing`, `Run`: states and the start, the table of components by what a node does, steps,
+//!   runs, and the trace that is seen of a run.
+//! - `Refines`: in no surrounding circuit does the one show anything that the other does not.
+//! - `Buffers`: a circuit, and a graph, without a Buffer or a Fork of one output.
+//! - `Root`, `Drains`: where the tokens of an input come from, the state at rest, and what a circuit drains.
+//! - `TaggerOrder`: what a Tagger gave out in a run. `Laws`: the laws that the functions below prove.
+//!
+//! Each function is a law: its contract cites `Laws`, and its body is empty or names the laws of lower crates that the proof
+//! needs. A crate above calls it where a proof needs the law, which is then in that call's `ensures`:
+//!
+//! ```text
+//! /// What a typed graph drains, its stripped graph drains.
+//! pub fn stripped_drains()
+//!     ensures { StrippedDrains }
+//! {
+//!     buffer_keeps_drains();
+//! }
+//! ```
+//!
+//! `proofs/` has the proof method for further rules, in public modules that `docs/PROOFS.md` explains: begin at `Matching`.
+//! The crate `circuit_examples` tries the definitions out on small graphs.
 #![tactic(auto)]
 
 ghost use Rattle.circuits.specs.Laws.{StartIsState, StepKeepsState, RunReachesState, FiringIsOne, TaggerKeepsOrder, RefinesItself, RefinesInSteps, RefinesAlone, PlugIsTyped, WholeRefines, DropRefines, PutRefines, CircuitIsTyped, GraphIsTyped, GraphDropRefines, GraphPutRefines, RootIsOne, RingHasNoRoot, RestIsOne, GraphRests, RestsWithoutInit, DropDrains, GraphDropDrains};
 
 use op_table::value_fits;
 
-/// In each state that a typed circuit reaches, tokens fit the shapes of their wires, what stands in the slots of Taggers fits, and the tags of the slots of each differ.
+/// In each state that a typed circuit reaches, tokens fit the shapes of their wires, what stands in the slots of Taggers
+/// fits, and the tags of the slots of each differ.
 pub fn states_fit()
     ensures start { StartIsState }
     ensures step { StepKeepsState }
@@ -16,7 +41,8 @@ pub fn states_fit()
     value_fits();
 }
 
-/// A node that fires with a choice in a state leads to one state: all that is open in a run is who goes next, and with which choice.
+/// A node that fires with a choice in a state leads to one state: all that is open in a run is who goes next, and with
+/// which choice.
 pub fn one_firing()
     ensures { FiringIsOne }
 {}
@@ -46,12 +72,12 @@ pub fn plugged_is_typed()
     ensures { PlugIsTyped }
 {}
 
-/// A circuit with a part that refines another refines the circuit with the other.
+/// A circuit with a part that refines another refines the circuit with the other, where names are apart.
 pub fn whole_refines()
     ensures { WholeRefines }
 {}
 
-/// A circuit shows the same with a Buffer on a wire and without it.
+/// A circuit shows the same with a Buffer on a wire, or a Fork of one output, and without it.
 pub fn buffer_shows_nothing()
     ensures dropped { DropRefines }
     ensures put { PutRefines }
@@ -65,7 +91,7 @@ pub fn graph_typed_as_circuit()
     ensures graph { GraphIsTyped }
 {}
 
-/// A graph shows the same with a Buffer on a wire and without it.
+/// A graph shows the same with a Buffer on a wire, or a Fork of one output, and without it.
 pub fn graph_buffer_shows_nothing()
     ensures dropped { GraphDropRefines }
     ensures put { GraphPutRefines }
@@ -79,14 +105,15 @@ pub fn one_root()
     ensures none { RingHasNoRoot }
 {}
 
-/// The Buffers and Forks that Inits lead to may fire in any order: a circuit has at most one rest state, a graph has one, and with no Init it is the start.
+/// The Buffers and Forks that Inits lead to may fire in any order: a circuit has at most one rest state, a graph has one,
+/// and with no Init it is the start.
 pub fn one_rest()
     ensures one { RestIsOne }
     ensures graph { GraphRests }
     ensures without_init { RestsWithoutInit }
 {}
 
-/// What a circuit drains it drains without a Buffer.
+/// What a circuit drains it drains without a Buffer, or without a Fork of one output.
 pub fn buffer_keeps_drains()
     ensures circuit { DropDrains }
     ensures graph { GraphDropDrains }

@@ -1,7 +1,8 @@
 -- The ports of a side have the numbers from 1 to their count.
-use Rattle.std.proofs.Common.{◌≡◌, ℕ, zero, suc, ◌<◌, ◌≤◌, true, List, [], ◌∷◌, length, is_some, refl, sym, true≢false}
+use Rattle.std.proofs.Common.{◌≡◌, ℕ, zero, suc, ◌<◌, ◌≤◌, true, List, [], ◌∷◌, length, Some, is_some, refl, sym, true≢false}
 use Rattle.std.proofs.Math.Bridge.{no_suc-le-zero}
 use Rattle.std.proofs.Math.Nat.{le_refl, suc-le-suc_iff, zero-lt-suc}
+use Rattle.std.proofs.lemmas.Option.{none-some}
 use Rattle.components.specs.Name.{port_get}
 
 -- the number of a port that is there
@@ -21,3 +22,9 @@ there [] (suc i) number = absurd (no_suc-le-zero number.few)
 there (x ∷ xs) zero number = absurd (no_suc-le-zero number.some)
 there (x ∷ xs) (suc zero) number = refl
 there (x ∷ xs) (suc (suc i)) number = there xs (suc i) (record { some = zero-lt-suc i; few = suc-le-suc_iff.0 number.few })
+
+-- the one port of a side has number 1
+pub single_port : {A : Type 0} (x y : A) (i : ℕ) → port_get (x ∷ []) i ≡ Some y → i ≡ 1
+single_port x y zero e = absurd (none-some y e)
+single_port x y (suc zero) e = refl
+single_port x y (suc (suc i)) e = absurd (none-some y e)

@@ -1,5 +1,5 @@
-use Rattle.circuits.proofs.Draining.{drains_without}
-use Rattle.circuits.proofs.GraphBuffers.{graph_drains}
+use Rattle.circuits.proofs.Buffers.Drains.{drains_without}
+use Rattle.circuits.proofs.Buffers.Graphs.{graph_drains}
 use Rattle.circuits.proofs.buffer_keeps_drains.Goals as goal
 
 pub returns-clause-circuit : goal.returns-clause-circuit

@@ -1,4 +1,4 @@
-use Rattle.circuits.proofs.Dropped.{dropped, put}
+use Rattle.circuits.proofs.Buffers.Circuits.{dropped, put}
 use Rattle.circuits.proofs.buffer_shows_nothing.Goals as goal
 
 pub returns-clause-dropped : goal.returns-clause-dropped

@@ -1,4 +1,4 @@
-use Rattle.circuits.proofs.GraphBuffers.{graph_drop_refines, graph_put_refines}
+use Rattle.circuits.proofs.Buffers.Graphs.{graph_drop_refines, graph_put_refines}
 use Rattle.circuits.proofs.graph_buffer_shows_nothing.Goals as goal
 
 pub returns-clause-dropped : goal.returns-clause-dropped

@@ -1,5 +1,5 @@
-use Rattle.circuits.proofs.Resting.{rest_is_one, rests_without_init}
-use Rattle.circuits.proofs.RestFound.{graph_rests}
+use Rattle.circuits.proofs.Rest.OneRest.{rest_is_one, rests_without_init}
+use Rattle.circuits.proofs.Rest.Found.{graph_rests}
 use Rattle.circuits.proofs.one_rest.Goals as goal
 
 pub returns-clause-one : goal.returns-clause-one

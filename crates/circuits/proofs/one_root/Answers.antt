@@ -1,4 +1,4 @@
-use Rattle.circuits.proofs.Roots.{root_is_one, ring_has_no_root}
+use Rattle.circuits.proofs.Rest.Roots.{root_is_one, ring_has_no_root}
 use Rattle.circuits.proofs.one_root.Goals as goal
 
 pub returns-clause-one : goal.returns-clause-one

@@ -1,4 +1,4 @@
-use Rattle.circuits.proofs.Plugged.{plug_typed}
+use Rattle.circuits.proofs.Plugging.Links.{plug_typed}
 use Rattle.circuits.proofs.plugged_is_typed.Goals as goal
 
 pub returns : goal.returns

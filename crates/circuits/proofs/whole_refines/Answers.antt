@@ -1,5 +1,5 @@
-use Rattle.circuits.proofs.Parts.{part_refines}
+use Rattle.circuits.proofs.Plugging.Parts.{whole_refines}
 use Rattle.circuits.proofs.whole_refines.Goals as goal
 
 pub returns : goal.returns
-returns c = part_refines
+returns c = whole_refines

@@ -6,31 +6,32 @@ use Rattle.components.specs.declared.kind.Kind.TheVariants.{Entry, Exit}
 use Rattle.components.specs.Name.{Name}
 use Rattle.circuits.specs.Circuit.{Circuit, Typed}
 use Rattle.circuits.specs.Run.{Move, Shows}
-use Rattle.circuits.specs.Plug.{Link, link_all, plug, beside, or_else, Apart, Joins, CanPlug}
+use Rattle.circuits.specs.Plug.{PlugLink, link_all, plug, beside, or_else, Apart, Joins, CanPlug}
 use Rattle.circuits.specs.Refines.{SamePorts, Refines}
+use Rattle.circuits.specs.Laws.{WholeRefines}
 use Rattle.circuits.proofs.Lists.{each_append, each_map, each_both}
 use Rattle.circuits.proofs.Beside.{apart_none, apart_sym, kind_left}
-use Rattle.circuits.proofs.Together.{kind_of_right, or_some}
+use Rattle.circuits.proofs.Plugging.Typed.{kind_of_right, or_some}
 use Rattle.circuits.proofs.Transitive.{IsLong, refines_of_long, long_apart}
-use Rattle.circuits.proofs.Plugged.{can_link_all, plug_typed, IsEnd, IsFree, kind_free, was_end, some_kind}
-use Rattle.circuits.proofs.Regrouping.{beside_assoc, Away, link_all_right, link_all_left, Distinct, link_all_swap, link_all_append}
-use Rattle.circuits.proofs.Splitting.{passing, failing, each_passing, once_passing, once_append, AreDistinct, are_distinct, split_links, distinct_back, failing_apart}
+use Rattle.circuits.proofs.Plugging.Links.{can_link_all, plug_typed, IsEnd, IsFree, kind_free, was_end, some_kind}
+use Rattle.circuits.proofs.Plugging.Regrouping.{beside_assoc, Away, link_all_right, link_all_left, Distinct, link_all_swap, link_all_append}
+use Rattle.circuits.proofs.Plugging.Splitting.{passing, failing, each_passing, once_passing, once_append, AreDistinct, are_distinct, split_links, distinct_back, failing_apart}
 
 -- one of the link's ends is a node of the rest
-abbrev pub touches : Circuit → Link → Bool
+abbrev pub touches : Circuit → PlugLink → Bool
 touches rest l = is_some (or_else (rest.kind_at l.exit) (rest.kind_at l.entry))
 
-each_swap : (D : Link → Link → Type 0) (ls ms : List Link) → AllByRecursion (λ l. AllByRecursion (D l) ls) ms → AllByRecursion (λ m. AllByRecursion (λ l. D l m) ms) ls
+each_swap : (D : PlugLink → PlugLink → Type 0) (ls ms : List PlugLink) → AllByRecursion (λ l. AllByRecursion (D l) ls) ms → AllByRecursion (λ m. AllByRecursion (λ l. D l m) ms) ls
 each_swap D [] ms h = tt
 each_swap D (l ∷ ls) ms h =
     (each_map (λ x. AllByRecursion (D x) (l ∷ ls)) (λ x. D x l) (λ x y. y.0) ms h, each_swap D ls ms (each_map (λ x. AllByRecursion (D x) (l ∷ ls)) (λ x. AllByRecursion (D x) ls) (λ x y. y.1) ms h))
 
 -- an Entry or Exit of the whole was one of the rest or of the part, and is no end of a link
-record Outer (rest g : Circuit) (ls : List Link) (n : Name) (k : Kind) : Type 0 where
+record Outer (rest g : Circuit) (ls : List PlugLink) (n : Name) (k : Kind) : Type 0 where
   kind : (rest.kind_at n ≡ Some k) ⊎ ((rest.kind_at n ≡ None) × (g.kind_at n ≡ Some k))
   free : AllByRecursion (IsFree n) ls
 
-module _ (rest g : Circuit) (ls : List Link) (tr : Typed rest) (tg : Typed g) (can : CanPlug rest ls g) where
+module _ (rest g : Circuit) (ls : List PlugLink) (tr : Typed rest) (tg : Typed g) (can : CanPlug rest ls g) where
   outer_end : (n : Name) (k : Kind) → IsEnd k → (plug rest ls g).kind_at n ≡ Some k → Outer rest g ls n k
   outer_end n k end e =
       let was = was_end ls (beside rest g) can.once (can_link_all rest g ls tr tg can) n k end e in
@@ -43,7 +44,7 @@ module _ (rest g : Circuit) (ls : List Link) (tr : Typed rest) (tg : Typed g) (c
   part_end n k e free = kind_free ls (beside rest g) n free ∙ kind_of_right rest g can.apart tr tg n k e
 
   -- c around the whole, with no name of its nodes
-  module _ (c : Circuit) (ms : List Link) (tc : Typed c) (cl : CanPlug c ms (plug rest ls g)) (cr : Apart c rest) (cg : Apart c g) where
+  module _ (c : Circuit) (ms : List PlugLink) (tc : Typed c) (cl : CanPlug c ms (plug rest ls g)) (cr : Apart c rest) (cg : Apart c g) where
     c_free : (n : Name) (k : Kind) → c.kind_at n ≡ Some k → AllByRecursion (IsFree n) ls
     c_free n k e =
         each_map (λ m. Joins m rest g ⊎ Joins m g rest) (IsFree n)
@@ -53,20 +54,20 @@ module _ (rest g : Circuit) (ls : List Link) (tr : Typed rest) (tg : Typed g) (c
         ]) ls can.joins
 
     -- a link from outside leads to the rest or to the part
-    record ToRest (l : Link) : Type 0 where
+    record ToRest (l : PlugLink) : Type 0 where
       joins : Joins l c rest ⊎ Joins l rest c
       away : Away g l
       is : touches rest l ≡ true
 
-    record ToPart (l : Link) : Type 0 where
+    record ToPart (l : PlugLink) : Type 0 where
       joins : Joins l c g ⊎ Joins l g c
       is : touches rest l ≡ false
 
-    record LinkEnds (l : Link) : Type 0 where
+    record LinkEnds (l : PlugLink) : Type 0 where
       to : ToRest l ⊎ ToPart l
       apart : AllByRecursion (Distinct l) ls
 
-    two_free : (l : Link) → AllByRecursion (IsFree l.exit) ls → AllByRecursion (IsFree l.entry) ls → AllByRecursion (Distinct l) ls
+    two_free : (l : PlugLink) → AllByRecursion (IsFree l.exit) ls → AllByRecursion (IsFree l.entry) ls → AllByRecursion (Distinct l) ls
     two_free l h k =
         each_both (IsFree l.exit) (IsFree l.entry) (Distinct l)
         (λ m x y. record { exits = λ e. x.0 (sym e); entries = λ e. y.1 (sym e); exit_entry = λ e. y.0 (sym e); entry_exit = λ e. x.1 (sym e) }) ls h k
@@ -74,7 +75,7 @@ module _ (rest g : Circuit) (ls : List Link) (tr : Typed rest) (tg : Typed g) (c
     not_rest : (n : Name) (k : Kind) → c.kind_at n ≡ Some k → rest.kind_at n ≡ None
     not_rest = apart_none c rest cr
 
-    leads_in : (l : Link) (j : Joins l c (plug rest ls g)) → Outer rest g ls l.entry (Entry j.shape) → ToRest l ⊎ ToPart l
+    leads_in : (l : PlugLink) (j : Joins l c (plug rest ls g)) → Outer rest g ls l.entry (Entry j.shape) → ToRest l ⊎ ToPart l
     leads_in l j o =
         elim o.kind [
           | inl e ↦ inl (record {
@@ -88,7 +89,7 @@ module _ (rest g : Circuit) (ls : List Link) (tr : Typed rest) (tg : Typed g) (c
           })
         ]
 
-    leads_out : (l : Link) (j : Joins l (plug rest ls g) c) → Outer rest g ls l.exit (Exit j.shape) → ToRest l ⊎ ToPart l
+    leads_out : (l : PlugLink) (j : Joins l (plug rest ls g) c) → Outer rest g ls l.exit (Exit j.shape) → ToRest l ⊎ ToPart l
     leads_out l j o =
         elim o.kind [
           | inl e ↦ inl (record {
@@ -102,7 +103,7 @@ module _ (rest g : Circuit) (ls : List Link) (tr : Typed rest) (tg : Typed g) (c
           })
         ]
 
-    ends_of_link : (l : Link) → Joins l c (plug rest ls g) ⊎ Joins l (plug rest ls g) c → LinkEnds l
+    ends_of_link : (l : PlugLink) → Joins l c (plug rest ls g) ⊎ Joins l (plug rest ls g) c → LinkEnds l
     ends_of_link l (inl j) =
         let o = outer_end l.entry (Entry j.shape) tt j.entry in
         record { to = leads_in l j o; apart = two_free l (c_free l.exit (Exit j.shape) j.exit) o.free }
@@ -113,10 +114,10 @@ module _ (rest g : Circuit) (ls : List Link) (tr : Typed rest) (tg : Typed g) (c
     leads : AllByRecursion LinkEnds ms
     leads = each_map (λ l. Joins l c (plug rest ls g) ⊎ Joins l (plug rest ls g) c) LinkEnds ends_of_link ms cl.joins
 
-    abbrev to_rest : List Link
+    abbrev to_rest : List PlugLink
     to_rest = passing (touches rest) ms
 
-    abbrev to_part : List Link
+    abbrev to_part : List PlugLink
     to_part = failing (touches rest) ms
 
     rest_links : AllByRecursion ToRest to_rest
@@ -176,10 +177,10 @@ module _ (rest g : Circuit) (ls : List Link) (tr : Typed rest) (tg : Typed g) (c
         let (i, h) = some_kind to_rest (beside c rest) can_rest.once (can_link_all c rest to_rest tc tr can_rest) n k e in
         elim (or_some (c.kind_at n) (rest.kind_at n) i h) [ inl x ↦ cg n i m x f | inr x ↦ can.apart n i m x.1 f ]
 
-    free_exit : (m : Link) → AllByRecursion (λ l. Distinct l m) to_rest → AllByRecursion (IsFree m.exit) to_rest
+    free_exit : (m : PlugLink) → AllByRecursion (λ l. Distinct l m) to_rest → AllByRecursion (IsFree m.exit) to_rest
     free_exit m d = each_map (λ l. Distinct l m) (IsFree m.exit) (λ l x. (x.exits, x.exit_entry)) to_rest d
 
-    free_entry : (m : Link) → AllByRecursion (λ l. Distinct l m) to_rest → AllByRecursion (IsFree m.entry) to_rest
+    free_entry : (m : PlugLink) → AllByRecursion (λ l. Distinct l m) to_rest → AllByRecursion (IsFree m.entry) to_rest
     free_entry m d = each_map (λ l. Distinct l m) (IsFree m.entry) (λ l x. (x.entry_exit, x.entries)) to_rest d
 
     around_rest : (n : Name) (k : Kind) → rest.kind_at n ≡ Some k → AllByRecursion (IsFree n) to_rest → (plug c to_rest rest).kind_at n ≡ Some k
@@ -188,14 +189,14 @@ module _ (rest g : Circuit) (ls : List Link) (tr : Typed rest) (tg : Typed g) (c
     around_c : (n : Name) (k : Kind) → c.kind_at n ≡ Some k → AllByRecursion (IsFree n) to_rest → (plug c to_rest rest).kind_at n ≡ Some k
     around_c n k e free = kind_free to_rest (beside c rest) n free ∙ kind_left c rest n k e
 
-    abbrev JoinsPart : Link → Type 0
+    abbrev JoinsPart : PlugLink → Type 0
     JoinsPart m = Joins m (plug c to_rest rest) g ⊎ Joins m g (plug c to_rest rest)
 
-    from_rest : (m : Link) → Joins m rest g ⊎ Joins m g rest → AllByRecursion (λ l. Distinct l m) to_rest → JoinsPart m
+    from_rest : (m : PlugLink) → Joins m rest g ⊎ Joins m g rest → AllByRecursion (λ l. Distinct l m) to_rest → JoinsPart m
     from_rest m (inl j) d = inl (record { shape = j.shape; exit = around_rest m.exit (Exit j.shape) j.exit (free_exit m d); entry = j.entry })
     from_rest m (inr j) d = inr (record { shape = j.shape; exit = j.exit; entry = around_rest m.entry (Entry j.shape) j.entry (free_entry m d) })
 
-    from_c : (m : Link) → Joins m c g ⊎ Joins m g c → AllByRecursion (λ l. Distinct l m) to_rest → JoinsPart m
+    from_c : (m : PlugLink) → Joins m c g ⊎ Joins m g c → AllByRecursion (λ l. Distinct l m) to_rest → JoinsPart m
     from_c m (inl j) d = inl (record { shape = j.shape; exit = around_c m.exit (Exit j.shape) j.exit (free_exit m d); entry = j.entry })
     from_c m (inr j) d = inr (record { shape = j.shape; exit = j.exit; entry = around_c m.entry (Entry j.shape) j.entry (free_entry m d) })
 
@@ -218,7 +219,7 @@ module _ (rest g : Circuit) (ls : List Link) (tr : Typed rest) (tg : Typed g) (c
         }
 
 -- a circuit refined in a part is refined
-module _ (rest new old : Circuit) (ls : List Link) (tr : Typed rest) (cn : CanPlug rest ls new) (co : CanPlug rest ls old) (r : Refines new old) where
+module _ (rest new old : Circuit) (ls : List PlugLink) (tr : Typed rest) (cn : CanPlug rest ls new) (co : CanPlug rest ls old) (r : Refines new old) where
   whole_new : Typed (plug rest ls new)
   whole_new = plug_typed rest new ls tr r.new_typed cn
 
@@ -245,7 +246,7 @@ module _ (rest new old : Circuit) (ls : List Link) (tr : Typed rest) (cn : CanPl
   bound : ℕ
   bound = tr.names.0 + (r.new_typed.names.0 + r.old_typed.names.0)
 
-  part_shows : (c : Circuit) (ms : List Link) (t : List Move) → Typed c → CanPlug c ms (plug rest ls new) → CanPlug c ms (plug rest ls old) → IsLong bound c → Shows (plug c ms (plug rest ls new)) t → Shows (plug c ms (plug rest ls old)) t
+  part_shows : (c : Circuit) (ms : List PlugLink) (t : List Move) → Typed c → CanPlug c ms (plug rest ls new) → CanPlug c ms (plug rest ls old) → IsLong bound c → Shows (plug c ms (plug rest ls new)) t → Shows (plug c ms (plug rest ls old)) t
   unfolding bound
   part_shows c ms t tc hn ho long sh =
       let cr : Apart c rest = long_apart c rest bound long (λ n k e. omega (arith, tr.names.1 n k e)) in
@@ -257,5 +258,15 @@ module _ (rest new old : Circuit) (ls : List Link) (tr : Typed rest) (cn : CanPl
       (r.shows around (failing (touches rest) ms ++ ls) t ty (can_around rest new ls tr r.new_typed cn c ms tc hn cr an) (can_around rest old ls tr r.old_typed co c ms tc ho cr ao)
       (subst (λ z. Shows z t) (regrouped rest new ls tr r.new_typed cn c ms tc hn cr an) sh))
 
-  pub part_refines : Refines (plug rest ls new) (plug rest ls old)
+  part_refines : Refines (plug rest ls new) (plug rest ls old)
   part_refines = refines_of_long (plug rest ls new) (plug rest ls old) whole_new whole_old part_ports bound part_shows
+
+-- what has the same Entries and Exits can be plugged in the same way
+fits_too : (c h g : Circuit) → SamePorts h g → (l : PlugLink) → Joins l c g ⊎ Joins l g c → Joins l c h ⊎ Joins l h c
+fits_too c h g same l (inl j) = inl (record { shape = j.shape; exit = j.exit; entry = (same.entries l.entry j.shape).1 j.entry })
+fits_too c h g same l (inr j) = inr (record { shape = j.shape; exit = (same.exits l.exit j.shape).1 j.exit; entry = j.entry })
+
+pub whole_refines : WholeRefines
+whole_refines rest new old ls typed can apart refines =
+    let joins = each_map _ (λ l. Joins l rest new ⊎ Joins l new rest) (fits_too rest new old refines.ports) ls can.joins in
+    part_refines rest new old ls typed (record { apart = apart; joins = joins; once = can.once }) can refines

@@ -7,34 +7,34 @@ use Rattle.components.specs.Name.{Name}
 use Rattle.components.specs.Kind.{Shape}
 use Rattle.circuits.specs.PortTokens.{Token}
 use Rattle.circuits.specs.Circuit.{Circuit}
-use Rattle.circuits.specs.State.{State, start}
+use Rattle.circuits.specs.CircuitState.{CircuitState, start}
 use Rattle.circuits.specs.Firing.{Label, Label.Feed, Label.Take, Label.Fire}
 use Rattle.circuits.specs.Run.{Step, Move, Run, trace, shown, Shows, Firing, move_of, Firings}
 
-run_append : (c : Circuit) (s : State) (ms : List Move) (m : State) (ns : List Move) (t : State) → Run c s ms m → Run c m ns t → Run c s (ms ++ ns) t
+run_append : (c : Circuit) (s : CircuitState) (ms : List Move) (m : CircuitState) (ns : List Move) (t : CircuitState) → Run c s ms m → Run c m ns t → Run c s (ms ++ ns) t
 run_append c s [] m ns t e k = subst (λ x. Run c x ns t) (sym e) k
 run_append c s (f ∷ fs) m ns t h k = (h.0, h.1, run_append c h.0 fs m ns t h.2 k)
 
 -- firings that lead from s to t
-pub record Inner (c : Circuit) (s t : State) : Type 0 where
+pub record Inner (c : Circuit) (s t : CircuitState) : Type 0 where
   pub firings : List Firing
   pub leads : Firings c s firings t
 
-pub inner_none : (c : Circuit) (s : State) → Inner c s s
+pub inner_none : (c : Circuit) (s : CircuitState) → Inner c s s
 inner_none c s = record { firings = []; leads = refl }
 
-pub inner_then : (c : Circuit) (s m t : State) → Inner c s m → Inner c m t → Inner c s t
+pub inner_then : (c : Circuit) (s m t : CircuitState) → Inner c s m → Inner c m t → Inner c s t
 inner_then c s m t h k =
     record {
       firings = h.firings ++ k.firings;
       leads = subst (λ ms. Run c s ms t) (sym (map-append move_of h.firings k.firings)) (run_append c s (map move_of h.firings) m (map move_of k.firings) t h.leads k.leads);
     }
 
-pub inner_one : (c : Circuit) (s t : State) (n : Name) (k : ℕ) → Step c s n (Fire k) t → Inner c s t
+pub inner_one : (c : Circuit) (s t : CircuitState) (n : Name) (k : ℕ) → Step c s n (Fire k) t → Inner c s t
 inner_one c s t n k h = record { firings = record { node = n; choice = k } ∷ []; leads = (t, h, refl) }
 
 -- c goes from s to t and shows tr
-pub record Goes (c : Circuit) (s : State) (tr : List Move) (t : State) : Type 0 where
+pub record Goes (c : Circuit) (s : CircuitState) (tr : List Move) (t : CircuitState) : Type 0 where
   pub moves : List Move
   pub run : Run c s moves t
   pub shows : trace moves ≡ tr
@@ -48,7 +48,7 @@ trace_append : (ms ns : List Move) → trace (ms ++ ns) ≡ trace ms ++ trace ns
 trace_append [] ns = refl
 trace_append (m ∷ ms) ns = ap (shown m.node m.label) (trace_append ms ns) ∙ shown_append m.node m.label (trace ms) (trace ns)
 
-pub goes_then : (c : Circuit) (s : State) (a : List Move) (m : State) (b : List Move) (t : State) → Goes c s a m → Goes c m b t → Goes c s (a ++ b) t
+pub goes_then : (c : Circuit) (s : CircuitState) (a : List Move) (m : CircuitState) (b : List Move) (t : CircuitState) → Goes c s a m → Goes c m b t → Goes c s (a ++ b) t
 goes_then c s a m b t h k =
     record {
       moves = h.moves ++ k.moves;
@@ -56,7 +56,7 @@ goes_then c s a m b t h k =
       shows = trace_append h.moves k.moves ∙ (λ i. h.shows i ++ k.shows i);
     }
 
-pub goes_one : (c : Circuit) (s : State) (n : Name) (l : Label) (t : State) → Step c s n l t → Goes c s (shown n l []) t
+pub goes_one : (c : Circuit) (s : CircuitState) (n : Name) (l : Label) (t : CircuitState) → Step c s n l t → Goes c s (shown n l []) t
 goes_one c s n l t h = record { moves = record { node = n; label = l } ∷ []; run = (t, h, refl); shows = refl }
 
 -- nothing is seen of firings
@@ -64,20 +64,20 @@ trace_firings : (fs : List Firing) → trace (map move_of fs) ≡ []
 trace_firings [] = refl
 trace_firings (f ∷ fs) = trace_firings fs
 
-pub goes_inner : (c : Circuit) (s t : State) → Inner c s t → Goes c s [] t
+pub goes_inner : (c : Circuit) (s t : CircuitState) → Inner c s t → Goes c s [] t
 goes_inner c s t h = record { moves = map move_of h.firings; run = h.leads; shows = trace_firings h.firings }
 
 -- each step of the new circuit h is matched in the old one g
 pub record Sim (h g : Circuit) : Type 1 where
-  pub R : State → State → Type 0
+  pub R : CircuitState → CircuitState → Type 0
   pub begins : R (start h) (start g)
-  pub feeds : (s t u : State) (n : Name) (v : Token) → R s t → Step h s n (Feed v) u → (w : State) × Step g t n (Feed v) w × R u w
-  pub takes : (s t u : State) (n : Name) (v : Token) → R s t → Step h s n (Take v) u → (m w : State) × Inner g t m × Step g m n (Take v) w × R u w
-  pub fires : (s t u : State) (n : Name) (c : ℕ) → R s t → Step h s n (Fire c) u → (w : State) × Inner g t w × R u w
-  pub fits : (s t u : State) (n : Name) (v : Token) (a : Shape) → R s t → h.kind_at n ≡ Some (Exit a) → Step h s n (Take v) u → Fits a v
+  pub feeds : (s t u : CircuitState) (n : Name) (v : Token) → R s t → Step h s n (Feed v) u → (w : CircuitState) × Step g t n (Feed v) w × R u w
+  pub takes : (s t u : CircuitState) (n : Name) (v : Token) → R s t → Step h s n (Take v) u → (m w : CircuitState) × Inner g t m × Step g m n (Take v) w × R u w
+  pub fires : (s t u : CircuitState) (n : Name) (c : ℕ) → R s t → Step h s n (Fire c) u → (w : CircuitState) × Inner g t w × R u w
+  pub fits : (s t u : CircuitState) (n : Name) (v : Token) (a : Shape) → R s t → h.kind_at n ≡ Some (Exit a) → Step h s n (Take v) u → Fits a v
 
 -- one step, whatever its label
-matched : (h g : Circuit) (sim : Sim h g) (s t u : State) (n : Name) (l : Label) → sim.R s t → Step h s n l u → (w : State) × Goes g t (shown n l []) w × sim.R u w
+matched : (h g : Circuit) (sim : Sim h g) (s t u : CircuitState) (n : Name) (l : Label) → sim.R s t → Step h s n l u → (w : CircuitState) × Goes g t (shown n l []) w × sim.R u w
 matched h g sim s t u n (Feed v) r st =
     let (w, st2, r2) = sim.feeds s t u n v r st in (w, goes_one g t n (Feed v) w st2, r2)
 matched h g sim s t u n (Take v) r st =
@@ -86,7 +86,7 @@ matched h g sim s t u n (Take v) r st =
 matched h g sim s t u n (Fire c) r st =
     let (w, inn, r2) = sim.fires s t u n c r st in (w, goes_inner g t w inn, r2)
 
-run_matched : (h g : Circuit) (sim : Sim h g) (s t : State) (ms : List Move) (u : State) → sim.R s t → Run h s ms u → (w : State) × Goes g t (trace ms) w × sim.R u w
+run_matched : (h g : Circuit) (sim : Sim h g) (s t : CircuitState) (ms : List Move) (u : CircuitState) → sim.R s t → Run h s ms u → (w : CircuitState) × Goes g t (trace ms) w × sim.R u w
 run_matched h g sim s t [] u r e = (t, record { moves = []; run = refl; shows = refl }, subst (λ x. sim.R x t) e r)
 run_matched h g sim s t (m ∷ ms) u r run =
     let (w, goes, r2) = matched h g sim s t run.0 m.node m.label r run.1 in
@@ -99,7 +99,7 @@ sim_shows h g sim tr sh =
     let (w, goes, r) = run_matched h g sim (start h) (start g) sh.0 sh.1 sim.begins sh.2 in
     (goes.moves, w, goes.run, goes.shows ∙ sh.3)
 
-pub inner_matched : (h g : Circuit) (sim : Sim h g) (s t : State) (fs : List Firing) (u : State) → sim.R s t → Firings h s fs u → (w : State) × Inner g t w × sim.R u w
+pub inner_matched : (h g : Circuit) (sim : Sim h g) (s t : CircuitState) (fs : List Firing) (u : CircuitState) → sim.R s t → Firings h s fs u → (w : CircuitState) × Inner g t w × sim.R u w
 inner_matched h g sim s t [] u r e = (t, inner_none g t, subst (λ x. sim.R x t) e r)
 inner_matched h g sim s t (f ∷ fs) u r run =
     let (w, inn, r2) = sim.fires s t run.0 f.node f.choice r run.1 in

@@ -8,18 +8,14 @@ use Rattle.components.specs.Name.{Name, Port}
 use Rattle.components.specs.Orders.{same_bytes, other_bytes}
 use Rattle.circuits.specs.PortTokens.{Token, one, share, share_from}
 use Rattle.circuits.specs.Circuit.{Circuit}
-use Rattle.circuits.specs.State.{Slot, State, start}
+use Rattle.circuits.specs.CircuitState.{Slot, CircuitState, start}
 use Rattle.circuits.specs.Firing.{Label, Label.Fire, Acts, Fires}
 use Rattle.circuits.specs.Run.{Step, Firing, Firings}
 use Rattle.circuits.specs.Buffers.{first_port}
 use Rattle.circuits.specs.Root.{PassesThrough}
 use Rattle.circuits.specs.Drains.{IsInit, Led, IsRest}
 use Rattle.circuits.proofs.Names.{name_cases}
-use Rattle.circuits.proofs.Steps.{acts_at, share_other, share_same}
-
--- two states are one where they hold the same
-pub state_same : (s t : State) → ((p : Port) → s.wires p ≡ t.wires p) → ((n : Name) → s.slots n ≡ t.slots n) → s ≡ t
-state_same s t ws xs = λ i. record { wires = λ p. ws p i; slots = λ n. xs n i }
+use Rattle.circuits.proofs.Steps.{acts_at, share_other, share_same, state_same}
 
 -- what a Buffer or a Fork gives for a token
 abbrev pub given_for : Kind → Token → List (List Token)
@@ -38,7 +34,7 @@ passes_one (Fork shape count) h choice old taken given new (v, z, et, eg, en) = 
 passes_one _ h choice old taken given new fires = absurd h
 
 -- a Buffer or a Fork can fire in one way
-module _ (c : Circuit) (s u w : State) (n : Name) (j k : ℕ) (kind : Kind) (is_kind : c.kind_at n ≡ Some kind) (passes : PassesThrough kind) (a : Step c s n (Fire j) u) (b : Step c s n (Fire k) w) where
+module _ (c : Circuit) (s u w : CircuitState) (n : Name) (j k : ℕ) (kind : Kind) (is_kind : c.kind_at n ≡ Some kind) (passes : PassesThrough kind) (a : Step c s n (Fire j) u) (b : Step c s n (Fire k) w) where
   by_a : Passed kind (s.slots n) a.taken a.given (u.slots n)
   by_a = passes_one kind passes j (s.slots n) a.taken a.given (u.slots n) (acts_at c s n (Fire j) u a kind is_kind)
 
@@ -75,7 +71,7 @@ module _ (c : Circuit) (s u w : State) (n : Name) (j k : ℕ) (kind : Kind) (is_
       ])
 
 -- two nodes that can fire can fire one after the other, in either order
-module _ (c : Circuit) (s u w : State) (m n : Name) (j k : Label) (a : Step c s m j u) (b : Step c s n k w) (ne : m ≢ n) where
+module _ (c : Circuit) (s u w : CircuitState) (m n : Name) (j k : Label) (a : Step c s m j u) (b : Step c s n k w) (ne : m ≢ n) where
   m_gives : Port → List Token
   m_gives p = share_from m a.given (c.feeder p)
 
@@ -108,7 +104,7 @@ module _ (c : Circuit) (s u w : State) (m n : Name) (j k : Label) (a : Step c s 
   m_between : Port → List Token
   m_between p = if bytes_eq p.node m then a.between p ++ n_gives p else w.wires p
 
-  both : State
+  both : CircuitState
   both = record { wires = λ p. n_between p ++ n_gives p; slots = λ q. if bytes_eq q n then w.slots n else u.slots q }
 
   n_takes : (p : Port) → u.wires p ≡ share n b.taken p ++ n_between p
@@ -190,21 +186,21 @@ module _ (c : Circuit) (s u w : State) (m n : Name) (j k : Label) (a : Step c s 
             ];
       }
 
-  pub either_first : (t : State) × Step c u n k t × Step c w m j t
+  pub either_first : (t : CircuitState) × Step c u n k t × Step c w m j t
   either_first = (both, n_second, m_second)
 
 -- no led node can fire
-abbrev Ends : Circuit → State → Type 0
-Ends c t = (n : Name) (choice : ℕ) (w : State) → Led c n → Step c t n (Fire choice) w → ⊥
+abbrev Ends : Circuit → CircuitState → Type 0
+Ends c t = (n : Name) (choice : ℕ) (w : CircuitState) → Led c n → Step c t n (Fire choice) w → ⊥
 
 -- a led node that can fire can do so first
-record Without (c : Circuit) (t u : State) : Type 0 where
+record Without (c : Circuit) (t u : CircuitState) : Type 0 where
   firings : List Firing
   led : AllByRecursion (λ f. Led c f.node) firings
   leads : Firings c t firings u
 
-module _ (c : Circuit) (u : State) (ends : Ends c u) where
-  first : (s t : State) (f : Firing) (gs : List Firing) → Led c f.node → Step c s f.node (Fire f.choice) t → AllByRecursion (λ g. Led c g.node) gs → Firings c s gs u → Without c t u
+module _ (c : Circuit) (u : CircuitState) (ends : Ends c u) where
+  first : (s t : CircuitState) (f : Firing) (gs : List Firing) → Led c f.node → Step c s f.node (Fire f.choice) t → AllByRecursion (λ g. Led c g.node) gs → Firings c s gs u → Without c t u
   first s t f [] led st all run = absurd (ends f.node f.choice t led (subst (λ x. Step c x f.node (Fire f.choice) t) run st))
   first s t f (g ∷ gs) led st all run =
       elim (name_cases f.node g.node) [
@@ -218,17 +214,17 @@ module _ (c : Circuit) (u : State) (ends : Ends c u) where
             record { firings = g ∷ go.firings; led = (all.0, go.led); leads = (x, later, go.leads) }
       ]
 
-  stays : (s : State) (gs : List Firing) → AllByRecursion (λ g. Led c g.node) gs → Firings c s gs u → Ends c s → s ≡ u
+  stays : (s : CircuitState) (gs : List Firing) → AllByRecursion (λ g. Led c g.node) gs → Firings c s gs u → Ends c s → s ≡ u
   stays s [] all run none = run
   stays s (g ∷ gs) all run none = absurd (none g.node g.choice run.0 all.0 run.1)
 
-  same_end : (s r : State) (fs gs : List Firing) → AllByRecursion (λ f. Led c f.node) fs → Firings c s fs r → Ends c r → AllByRecursion (λ g. Led c g.node) gs → Firings c s gs u → r ≡ u
+  same_end : (s r : CircuitState) (fs gs : List Firing) → AllByRecursion (λ f. Led c f.node) fs → Firings c s fs r → Ends c r → AllByRecursion (λ g. Led c g.node) gs → Firings c s gs u → r ≡ u
   same_end s r [] gs led run none all other = sym run ∙ stays s gs all other (subst (Ends c) (sym run) none)
   same_end s r (f ∷ fs) gs led run none all other =
       let go = first s run.0 f gs led.0 run.1 all other in
       same_end run.0 r fs go.firings led.1 run.2 none go.led go.leads
 
-pub rest_is_one : (c : Circuit) (r s : State) → IsRest c r → IsRest c s → r ≡ s
+pub rest_is_one : (c : Circuit) (r s : CircuitState) → IsRest c r → IsRest c s → r ≡ s
 rest_is_one c r s is also = same_end c s also.ends (start c) r is.firings also.firings is.led is.leads is.ends also.led also.leads
 
 -- where no node is led, the start is at rest

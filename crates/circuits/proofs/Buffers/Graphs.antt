@@ -14,9 +14,9 @@ use Rattle.circuits.specs.Refines.{Refines}
 use Rattle.circuits.specs.Buffers.{first_port, bypass, drop_node, IsWithoutBuffer}
 use Rattle.circuits.specs.Drains.{Drains}
 use Rattle.circuits.proofs.Names.{name_cases}
-use Rattle.circuits.proofs.Dropping.{CanDrop}
-use Rattle.circuits.proofs.Dropped.{in_is, out_is, can_drop_of, dropped, put}
-use Rattle.circuits.proofs.Draining.{drains_without}
+use Rattle.circuits.proofs.Buffers.Steps.{CanDrop}
+use Rattle.circuits.proofs.Buffers.Circuits.{in_is, out_is, can_drop_of, dropped, put}
+use Rattle.circuits.proofs.Buffers.Drains.{drains_without}
 use Rattle.circuits.proofs.Renaming.{circuit_same}
 use Rattle.circuits.proofs.GraphCircuits.{circuit_typed}
 

@@ -1,32 +1,22 @@
 -- What a circuit drains it drains without a Buffer.
-use Rattle.std.proofs.Common.{◌≡◌, ◌≢◌, ℕ, inl, inr, refl, sym, ap, subst, ◌∙◌, if◌then◌else◌, List, [], ◌∷◌, ◌++◌, Option, Some, None, append-nil}
+use Rattle.std.proofs.Common.{◌≡◌, ◌≢◌, inl, inr, refl, sym, ap, subst, ◌∙◌, if◌then◌else◌, List, [], ◌∷◌, ◌++◌, Option, Some, None, append-nil}
 use Rattle.std.specs.List.{AllByRecursion}
 use Rattle.std.proofs.lemmas.Option.{same_Some}
 use Rattle.components.specs.declared.kind.Kind.{Kind}
-use Rattle.components.specs.declared.kind.Kind.TheVariants.{Entry, Exit, Buffer, Fork, Init}
+use Rattle.components.specs.declared.kind.Kind.TheVariants.{Entry, Exit, Buffer, Fork}
 use Rattle.components.specs.Name.{Name, Port}
-use Rattle.circuits.specs.PortTokens.{Token, share, share_from}
+use Rattle.circuits.specs.PortTokens.{Token, share}
 use Rattle.circuits.specs.Circuit.{Circuit, kind_of, Typed}
-use Rattle.circuits.specs.State.{State, start, initial}
+use Rattle.circuits.specs.CircuitState.{CircuitState, start, initial}
 use Rattle.circuits.specs.Firing.{Label.Fire}
 use Rattle.circuits.specs.Run.{Step, Firing, Firings}
 use Rattle.circuits.specs.Buffers.{first_port, bypass, drop_node, IsBufferLike, CanDropBuffer}
 use Rattle.circuits.specs.Root.{PassesThrough, Root, Root.here, Root.past}
-use Rattle.circuits.specs.Drains.{IsInit, ComesFromInit, Led, IsRest, put_by, put_on, loaded, IsNoExit, Drains}
+use Rattle.circuits.specs.Drains.{Led, IsRest, put_by, put_on, loaded, IsNoExit, Drains}
 use Rattle.circuits.proofs.Names.{name_cases}
-use Rattle.circuits.proofs.Steps.{share_other}
-use Rattle.circuits.proofs.Dropping.{CanDrop, Ahead, held, pass, pass_ahead, down_to, down_step, down_ahead, up_to, up_step, level, start_ahead, kind_dropped, feeder_dropped}
-use Rattle.circuits.proofs.Dropped.{Fed, Fed.straight, Fed.across, fed, fed_straight, fed_across, node_kept, kind_kept, can_drop_of}
-
--- what holds a token at the start is an Init
-initial_init : (k : Kind) (v : Token) (vs : List Token) → initial (Some k) ≡ v ∷ vs → IsInit k
-initial_init (Init value mark) v vs e = tt
-initial_init _ v vs e = let z : [] ≡ v ∷ vs = e in cc
-
--- no walk goes through an Init
-init_stays : (k : Kind) → IsInit k → PassesThrough k → ⊥
-init_stays (Init value mark) h p = p
-init_stays _ h p = absurd h
+use Rattle.circuits.proofs.Buffers.Steps.{CanDrop, Ahead, held, pass, pass_ahead, down_to, down_step, down_ahead, up_to, up_step, level, start_ahead, kind_dropped, feeder_dropped}
+use Rattle.circuits.proofs.Buffers.Circuits.{Fed, Fed.straight, Fed.across, fed, fed_straight, fed_across, node_kept, kind_kept, can_drop_of}
+use Rattle.circuits.proofs.Rest.Inits.{init_stays, rest_comes}
 
 through_of : (k : Kind) → IsBufferLike k → PassesThrough k
 through_of (Buffer _) h = tt
@@ -38,61 +28,6 @@ no_exit (Buffer _) h = tt
 no_exit (Fork _ _) h = tt
 no_exit _ h = absurd h
 
--- only wires that come from an Init hold anything
-abbrev pub Comes : Circuit → State → Type 0
-Comes c s = (p : Port) (v : Token) (vs : List Token) → s.wires p ≡ v ∷ vs → ComesFromInit c p
-
-module _ (c : Circuit) where
-  start_kind : (p q : Port) (v : Token) (vs : List Token) → c.feeder p ≡ Some q → (k : Option Kind) → c.kind_at q.node ≡ k → initial k ≡ v ∷ vs → ComesFromInit c p
-  start_kind p q v vs f None e h = let z : [] ≡ v ∷ vs = h in cc
-  start_kind p q v vs f (Some k) e h =
-      let is : IsInit k = initial_init k v vs h in
-      record { root = q; is_root = here k f e (init_stays k is); source = k; is_source = e; is_init = is }
-
-  start_at : (p : Port) (v : Token) (vs : List Token) (o : Option Port) → c.feeder p ≡ o → initial (kind_of c o) ≡ v ∷ vs → ComesFromInit c p
-  start_at p v vs None f h = let z : [] ≡ v ∷ vs = h in cc
-  start_at p v vs (Some q) f h = start_kind p q v vs f (c.kind_at q.node) refl h
-
-  pub start_comes : Comes c (start c)
-  start_comes p v vs e = start_at p v vs (c.feeder p) refl e
-
-  fed_by_led : (n : Name) → Led c n → (p q : Port) → c.feeder p ≡ Some q → q.node ≡ n → ComesFromInit c p
-  fed_by_led n led p q f is =
-      let from = led.comes in
-      record {
-        root = from.root;
-        is_root = past q led.kind f (ap c.kind_at is ∙ led.is_kind) led.passes (subst (λ z. Root c (first_port z) from.root) (sym is) from.is_root);
-        source = from.source;
-        is_source = from.is_source;
-        is_init = from.is_init;
-      }
-
-  gift_comes : (n : Name) → Led c n → (side : List (List Token)) (p : Port) (v : Token) (vs : List Token) (o : Option Port) → c.feeder p ≡ o → share_from n side o ≡ v ∷ vs → ComesFromInit c p
-  gift_comes n led side p v vs None f h = let z : [] ≡ v ∷ vs = h in cc
-  gift_comes n led side p v vs (Some q) f h =
-      elim (name_cases q.node n) [
-        | inl is ↦ fed_by_led n led p q f is.is
-        | inr ne ↦ let z : [] ≡ v ∷ vs = sym (share_other n side q ne.is_not) ∙ h in cc
-      ]
-
-  cons_behind : (xs : List Token) (w : Token) (ws : List Token) → (z : Token) × (zs : List Token) × (xs ++ w ∷ ws ≡ z ∷ zs)
-  cons_behind [] w ws = (w, ws, refl)
-  cons_behind (x ∷ xs) w ws = (x, xs ++ w ∷ ws, refl)
-
-  step_comes_at : (s : State) (n : Name) (k : ℕ) (t : State) (st : Step c s n (Fire k) t) → Led c n → Comes c s →
-      (p : Port) (v : Token) (vs : List Token) (b : List Token) → st.between p ≡ b → b ++ share_from n st.given (c.feeder p) ≡ v ∷ vs → ComesFromInit c p
-  step_comes_at s n k t st led h p v vs [] e f = gift_comes n led st.given p v vs (c.feeder p) refl f
-  step_comes_at s n k t st led h p v vs (w ∷ ws) e f =
-      let (z, zs, g) = cons_behind (share n st.taken p) w ws in h p z zs (st.takes p ∙ ap (λ x. share n st.taken p ++ x) e ∙ g)
-
-  pub led_comes : (s : State) (fs : List Firing) (t : State) → AllByRecursion (λ f. Led c f.node) fs → Firings c s fs t → Comes c s → Comes c t
-  led_comes s [] t led run h p v vs e = h p v vs (ap (λ (z : State). z.wires p) run ∙ e)
-  led_comes s (f ∷ fs) t led run h p v vs e =
-      led_comes run.0 fs t led.1 run.2 (λ q w ws g. step_comes_at s f.node f.choice run.0 run.1 led.0 h q w ws (run.1.between q) refl (sym (run.1.gives q) ∙ g)) p v vs e
-
-  pub rest_comes : (r : State) → IsRest c r → (p : Port) (v : Token) (vs : List Token) → r.wires p ≡ v ∷ vs → ComesFromInit c p
-  rest_comes r is = led_comes (start c) is.firings r is.led is.leads start_comes
-
 module _ (c : Circuit) (b : Name) (cd : CanDropBuffer c b) (ty : Typed c) where
   can : CanDrop c b
   can = can_drop_of c b cd
@@ -101,13 +36,13 @@ module _ (c : Circuit) (b : Name) (cd : CanDropBuffer c b) (ty : Typed c) where
   through = through_of cd.kind cd.passes
 
   -- at rest nothing stands before b
-  rest_empty_at : (r : State) → IsRest c r → (xs : List Token) → r.wires (first_port b) ≡ xs → r.wires (first_port b) ≡ []
+  rest_empty_at : (r : CircuitState) → IsRest c r → (xs : List Token) → r.wires (first_port b) ≡ xs → r.wires (first_port b) ≡ []
   rest_empty_at r is [] e = e
   rest_empty_at r is (v ∷ vs) e =
       let led : Led c b = record { kind = cd.kind; is_kind = cd.is_kind; passes = through; comes = rest_comes c r is (first_port b) v vs e } in
       absurd (is.ends b 0 _ led (pass c b can ty r v vs e))
 
-  rest_empty : (r : State) → IsRest c r → r.wires (first_port b) ≡ []
+  rest_empty : (r : CircuitState) → IsRest c r → r.wires (first_port b) ≡ []
   rest_empty r is = rest_empty_at r is (r.wires (first_port b)) refl
 
   root_away : (n : Name) (k : Kind) → c.kind_at n ≡ Some k → (PassesThrough k → ⊥) → n ≢ b
@@ -194,14 +129,14 @@ module _ (c : Circuit) (b : Name) (cd : CanDropBuffer c b) (ty : Typed c) where
       }
 
   -- firings without b
-  record Fewer (s : State) (fs : List Firing) (t : State) : Type 0 where
-    to : State
+  record Fewer (s : CircuitState) (fs : List Firing) (t : CircuitState) : Type 0 where
+    to : CircuitState
     firings : List Firing
     leads : Firings (drop_node b c) s firings to
     ahead : Ahead c b to t
     led : AllByRecursion (λ f. Led c f.node) fs → AllByRecursion (λ f. Led (drop_node b c) f.node) firings
 
-  fewer : (s t : State) (fs : List Firing) (u : State) → Ahead c b s t → Firings c t fs u → Fewer s fs u
+  fewer : (s t : CircuitState) (fs : List Firing) (u : CircuitState) → Ahead c b s t → Firings c t fs u → Fewer s fs u
   fewer s t [] u a run = record { to = s; firings = []; leads = refl; ahead = subst (Ahead c b s) run a; led = λ h. tt }
   fewer s t (f ∷ fs) u a run =
       elim (name_cases f.node b) [
@@ -209,7 +144,7 @@ module _ (c : Circuit) (b : Name) (cd : CanDropBuffer c b) (ty : Typed c) where
             let go = fewer s run.0 fs u (pass_ahead c b can ty t f.choice run.0 (subst (λ z. Step c t z (Fire f.choice) run.0) is.is run.1) s a) run.2 in
             record { to = go.to; firings = go.firings; leads = go.leads; ahead = go.ahead; led = λ h. go.led h.1 }
         | inr ne ↦
-            let x : State = down_to c b can s t a f.node (Fire f.choice) run.0 ne.is_not run.1 in
+            let x : CircuitState = down_to c b can s t a f.node (Fire f.choice) run.0 ne.is_not run.1 in
             let go = fewer x run.0 fs u (down_ahead c b can s t a f.node (Fire f.choice) run.0 ne.is_not run.1) run.2 in
             record {
               to = go.to;
@@ -221,7 +156,7 @@ module _ (c : Circuit) (b : Name) (cd : CanDropBuffer c b) (ty : Typed c) where
       ]
 
   -- the state at rest
-  rest_without : (r : State) → IsRest c r → (q : State) × IsRest (drop_node b c) q × Ahead c b q r
+  rest_without : (r : CircuitState) → IsRest c r → (q : CircuitState) × IsRest (drop_node b c) q × Ahead c b q r
   rest_without r is =
       let go = fewer (start (drop_node b c)) (start c) is.firings r (start_ahead c b can ty) is.leads in (
         go.to,

@@ -7,7 +7,7 @@ use Rattle.components.specs.Name.{Name, Port, port_get}
 use Rattle.components.specs.Kind.{Shape, ins, outs, KindOk}
 use Rattle.components.specs.Orders.{same_bytes, other_bytes}
 use Rattle.circuits.specs.Circuit.{Circuit, Typed, Wire}
-use Rattle.circuits.specs.Plug.{Link, link, redirect, beside, or_else, Apart}
+use Rattle.circuits.specs.Plug.{PlugLink, link, redirect, beside, or_else, Apart}
 use Rattle.circuits.proofs.Names.{name_cases}
 use Rattle.circuits.proofs.Linking.{CanLink, kind_other, kind_exit, kind_entry}
 use Rattle.circuits.proofs.Beside.{apart_none, apart_sym, kind_left, kind_right, unfed, none_some}
@@ -68,7 +68,7 @@ module _ (c d : Circuit) (h : Apart c d) (tc : Typed c) (td : Typed d) where
       }
 
 -- a linked circuit is typed
-redirect_some : (l : Link) (o : Option Port) (q : Port) → redirect l o ≡ Some q → (r : Port) × (o ≡ Some r) × (((r.node ≡ l.entry) × (record { node = l.exit; port = r.port } ≡ q)) ⊎ ((r.node ≢ l.entry) × (r ≡ q)))
+redirect_some : (l : PlugLink) (o : Option Port) (q : Port) → redirect l o ≡ Some q → (r : Port) × (o ≡ Some r) × (((r.node ≡ l.entry) × (record { node = l.exit; port = r.port } ≡ q)) ⊎ ((r.node ≢ l.entry) × (r ≡ q)))
 redirect_some l None q e = let z : None ≡ Some q = e in cc
 redirect_some l (Some r) q e = (
   r,
@@ -80,11 +80,11 @@ redirect_some l (Some r) q e = (
 )
 
 -- what a kind in a linked circuit was
-pub data Was (l : Link) (c : Circuit) (a : Shape) (n : Name) (k : Kind) : Type 0 where
+pub data Was (l : PlugLink) (c : Circuit) (a : Shape) (n : Name) (k : Kind) : Type 0 where
   was_exit : n ≡ l.exit → k ≡ Buffer a → Was l c a n k
   was_same : n ≢ l.exit → n ≢ l.entry → c.kind_at n ≡ Some k → Was l c a n k
 
-module _ (l : Link) (c : Circuit) (a : Shape) (can : CanLink l c a) where
+module _ (l : PlugLink) (c : Circuit) (a : Shape) (can : CanLink l c a) where
   pub was : (n : Name) (k : Kind) → (link l c).kind_at n ≡ Some k → Was l c a n k
   was n k e =
       elim (name_cases n l.entry) [

@@ -7,35 +7,33 @@ use Rattle.components.specs.declared.kind.Kind.TheVariants.{Entry, Exit, Buffer,
 use Rattle.components.specs.Name.{Name, Port, port_get}
 use Rattle.components.specs.Kind.{Shape, ins, outs}
 use Rattle.components.specs.Orders.{same_bytes, other_bytes}
+use Rattle.components.specs.Numbered.{single_port}
 use Rattle.circuits.specs.Circuit.{Circuit, Wire, Typed}
 use Rattle.circuits.specs.Refines.{SamePorts, Refines}
-use Rattle.circuits.specs.Buffers.{bypass, drop_node, IsBufferLike, CanDropBuffer}
+use Rattle.circuits.specs.Buffers.{first_port, bypass, drop_node, IsBufferLike, CanDropBuffer}
 use Rattle.circuits.proofs.Names.{name_cases}
 use Rattle.circuits.proofs.Matching.{matches_refines}
-use Rattle.circuits.proofs.Dropping.{CanDrop, IsPlain, buffer_plain, fork_plain, kind_dropped, kind_gone, feeder_dropped, feeder_gone, single_port, out_port, drop_matches, undrop_matches}
+use Rattle.circuits.proofs.Buffers.Steps.{CanDrop, IsPlain, buffer_plain, fork_plain, kind_dropped, kind_gone, feeder_dropped, feeder_gone, out_port, drop_matches, undrop_matches}
 
 -- what feeds an input without b: what fed it, or what fed b
 pub data Fed (c : Circuit) (b : Name) (p q : Port) : Type 0 where
   straight : c.feeder p ≡ Some q → q.node ≢ b → Fed c b p q
-  across : (r : Port) → c.feeder p ≡ Some r → r.node ≡ b → c.feeder (record { node = b; port = 1 }) ≡ Some q → Fed c b p q
+  across : (r : Port) → c.feeder p ≡ Some r → r.node ≡ b → c.feeder (first_port b) ≡ Some q → Fed c b p q
 
 module _ (c : Circuit) (b : Name) (can : CanDrop c b) (ty : Typed c) where
-  first : Port
-  first = record { node = b; port = 1 }
-
   pub node_kept : (n : Name) (k : Kind) → (drop_node b c).kind_at n ≡ Some k → n ≢ b
   node_kept n k e is = let z : None ≡ Some k = sym (kind_gone c b can n is) ∙ e in cc
 
   pub kind_kept : (n : Name) (k : Kind) → (drop_node b c).kind_at n ≡ Some k → c.kind_at n ≡ Some k
   kind_kept n k e = sym (kind_dropped c b can n (node_kept n k e)) ∙ e
 
-  fed_at : (p q : Port) (o : Option Port) → c.feeder p ≡ o → bypass b (c.feeder (record { node = b; port = 1 })) o ≡ Some q → Fed c b p q
+  fed_at : (p q : Port) (o : Option Port) → c.feeder p ≡ o → bypass b (c.feeder (first_port b)) o ≡ Some q → Fed c b p q
   fed_at p q None f e = let z : None ≡ Some q = e in cc
   fed_at p q (Some r) f e =
       elim (name_cases r.node b) [
-        | inl is ↦ across r f is.is (ap (λ z. if z then c.feeder (record { node = b; port = 1 }) else Some r) (sym is.test) ∙ e)
+        | inl is ↦ across r f is.is (ap (λ z. if z then c.feeder (first_port b) else Some r) (sym is.test) ∙ e)
         | inr ne ↦
-            let same : Some r ≡ Some q = ap (λ z. if z then c.feeder (record { node = b; port = 1 }) else Some r) (sym ne.test) ∙ e in
+            let same : Some r ≡ Some q = ap (λ z. if z then c.feeder (first_port b) else Some r) (sym ne.test) ∙ e in
             straight (f ∙ same) (λ x. ne.is_not (ap (λ (z : Port). z.node) (same_Some r q same) ∙ x))
       ]
 
@@ -47,13 +45,13 @@ module _ (c : Circuit) (b : Name) (can : CanDrop c b) (ty : Typed c) where
 
   pub fed_straight : (p q : Port) → p.node ≢ b → c.feeder p ≡ Some q → q.node ≢ b → (drop_node b c).feeder p ≡ Some q
   fed_straight p q away f ne =
-      feeder_dropped c b can p away ∙ ap (bypass b (c.feeder (record { node = b; port = 1 }))) f
-      ∙ ap (λ z. if z then c.feeder (record { node = b; port = 1 }) else Some q) (other_bytes q.node b ne)
+      feeder_dropped c b can p away ∙ ap (bypass b (c.feeder (first_port b))) f
+      ∙ ap (λ z. if z then c.feeder (first_port b) else Some q) (other_bytes q.node b ne)
 
-  pub fed_across : (p r : Port) → p.node ≢ b → c.feeder p ≡ Some r → r.node ≡ b → (drop_node b c).feeder p ≡ c.feeder (record { node = b; port = 1 })
+  pub fed_across : (p r : Port) → p.node ≢ b → c.feeder p ≡ Some r → r.node ≡ b → (drop_node b c).feeder p ≡ c.feeder (first_port b)
   fed_across p r away f is =
-      feeder_dropped c b can p away ∙ ap (bypass b (c.feeder (record { node = b; port = 1 }))) f
-      ∙ ap (λ z. if z then c.feeder (record { node = b; port = 1 }) else Some r) (same_bytes r.node b is)
+      feeder_dropped c b can p away ∙ ap (bypass b (c.feeder (first_port b))) f
+      ∙ ap (λ z. if z then c.feeder (first_port b) else Some r) (same_bytes r.node b is)
 
   source_kind : (p q : Port) (f : c.feeder p ≡ Some q) → q.node ≡ b → (ty.wires p q f).from ≡ can.kind
   source_kind p q f is = same_Some _ can.kind (sym (ty.wires p q f).is_from ∙ ap c.kind_at is ∙ can.is_kind)
@@ -62,16 +60,16 @@ module _ (c : Circuit) (b : Name) (can : CanDrop c b) (ty : Typed c) where
   target_kind p q f is = same_Some _ can.kind (sym (ty.wires p q f).is_to ∙ ap c.kind_at is ∙ can.is_kind)
 
   -- a port of b is its one port
-  pub out_is : (p q : Port) → c.feeder p ≡ Some q → q.node ≡ b → q ≡ record { node = b; port = 1 }
+  pub out_is : (p q : Port) → c.feeder p ≡ Some q → q.node ≡ b → q ≡ first_port b
   out_is p q f is = λ i. record { node = is i; port = out_port c b can ty p q f is i }
 
-  pub in_is : (p q : Port) → c.feeder p ≡ Some q → p.node ≡ b → p ≡ record { node = b; port = 1 }
+  pub in_is : (p q : Port) → c.feeder p ≡ Some q → p.node ≡ b → p ≡ first_port b
   in_is p q f is =
       let w = ty.wires p q f in
       let e : p.port ≡ 1 = single_port can.shape w.shape p.port (ap (λ z. port_get z p.port) (sym (ap ins (target_kind p q f is) ∙ can.plain.input)) ∙ w.enters) in
       λ i. record { node = is i; port = e i }
 
-  before_is : (q : Port) → c.feeder (record { node = b; port = 1 }) ≡ Some q → can.before ≡ q
+  before_is : (q : Port) → c.feeder (first_port b) ≡ Some q → can.before ≡ q
   before_is q f = same_Some can.before q (sym can.is_before ∙ f)
 
   wire_of : (p q : Port) → p.node ≢ b → Fed c b p q → Wire (drop_node b c) q p
@@ -88,10 +86,10 @@ module _ (c : Circuit) (b : Name) (can : CanDrop c b) (ty : Typed c) where
       }
   wire_of p q away (across r f is g) =
       let w = ty.wires p r f in
-      let v = ty.wires (record { node = b; port = 1 }) q g in
+      let v = ty.wires (first_port b) q g in
       let ne : q.node ≢ b = λ x. can.other (ap (λ (z : Port). z.node) (before_is q g) ∙ x) in
       let one : w.shape ≡ can.shape = same_Some w.shape can.shape (sym w.leaves ∙ (λ i. port_get ((ap outs (source_kind p r f is) ∙ can.plain.output) i) (out_port c b can ty p r f is i))) in
-      let two : v.shape ≡ can.shape = same_Some v.shape can.shape (sym v.enters ∙ ap (λ z. port_get z 1) (ap ins (target_kind (record { node = b; port = 1 }) q g refl) ∙ can.plain.input)) in
+      let two : v.shape ≡ can.shape = same_Some v.shape can.shape (sym v.enters ∙ ap (λ z. port_get z 1) (ap ins (target_kind (first_port b) q g refl) ∙ can.plain.input)) in
       record {
         to = w.to;
         from = v.from;
@@ -113,19 +111,19 @@ module _ (c : Circuit) (b : Name) (can : CanDrop c b) (ty : Typed c) where
   output_of p q away f =
       elim (name_cases p.node b) [
         | inl is ↦
-            let at : c.feeder (record { node = b; port = 1 }) ≡ Some q = ap c.feeder (sym (in_is p q f is.is)) ∙ f in
-            let (r, g) = ty.outputs (record { node = b; port = 1 }) can.kind can.shape can.is_kind (ap (λ z. port_get z 1) can.plain.output) in
-            let ne : r.node ≢ b = λ x. can.other (ap (λ (z : Port). z.node) (same_Some can.before (record { node = b; port = 1 }) (sym can.is_before ∙ ap c.feeder (sym (in_is r (record { node = b; port = 1 }) g x)) ∙ g))) in
-            (r, fed_across r (record { node = b; port = 1 }) ne g refl ∙ at)
+            let at : c.feeder (first_port b) ≡ Some q = ap c.feeder (sym (in_is p q f is.is)) ∙ f in
+            let (r, g) = ty.outputs (first_port b) can.kind can.shape can.is_kind (ap (λ z. port_get z 1) can.plain.output) in
+            let ne : r.node ≢ b = λ x. can.other (ap (λ (z : Port). z.node) (same_Some can.before (first_port b) (sym can.is_before ∙ ap c.feeder (sym (in_is r (first_port b) g x)) ∙ g))) in
+            (r, fed_across r (first_port b) ne g refl ∙ at)
         | inr ne ↦ (p, fed_straight p q ne.is_not f away)
       ]
 
   once_of : (p r q : Port) → p.node ≢ b → r.node ≢ b → Fed c b p q → Fed c b r q → p ≡ r
   once_of p r q np nr (straight f x) (straight g y) = ty.once p r q f g
-  once_of p r q np nr (straight f x) (across s g is h) = absurd (np (ap (λ (z : Port). z.node) (ty.once p (record { node = b; port = 1 }) q f h)))
-  once_of p r q np nr (across s f is h) (straight g y) = absurd (nr (ap (λ (z : Port). z.node) (ty.once r (record { node = b; port = 1 }) q g h)))
+  once_of p r q np nr (straight f x) (across s g is h) = absurd (np (ap (λ (z : Port). z.node) (ty.once p (first_port b) q f h)))
+  once_of p r q np nr (across s f is h) (straight g y) = absurd (nr (ap (λ (z : Port). z.node) (ty.once r (first_port b) q g h)))
   once_of p r q np nr (across s f is h) (across s' f' is' h') =
-      ty.once p r (record { node = b; port = 1 }) (f ∙ ap Some (out_is p s f is)) (f' ∙ ap Some (out_is r s' f' is'))
+      ty.once p r (first_port b) (f ∙ ap Some (out_is p s f is)) (f' ∙ ap Some (out_is r s' f' is'))
 
   pub drop_typed : Typed (drop_node b c)
   drop_typed =

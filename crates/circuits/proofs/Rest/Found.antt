@@ -14,7 +14,7 @@ use Rattle.components.specs.Lookups.{other_test}
 use Rattle.components.specs.Orders.{name_total, name_same}
 use Rattle.circuits.specs.PortTokens.{Token, one, at_port, share, share_from}
 use Rattle.circuits.specs.Circuit.{Circuit, circuit_of, kind_of, kind_of_body}
-use Rattle.circuits.specs.State.{Slot, State, start, initial}
+use Rattle.circuits.specs.CircuitState.{Slot, CircuitState, start, initial}
 use Rattle.circuits.specs.Firing.{Label.Fire, Fires}
 use Rattle.circuits.specs.Run.{Step, Firing, Firings}
 use Rattle.circuits.specs.Buffers.{first_port}
@@ -23,8 +23,8 @@ use Rattle.circuits.specs.Drains.{Led, IsRest}
 use Rattle.circuits.proofs.Names.{name_cases}
 use Rattle.circuits.proofs.Steps.{acts_at, share_same, share_other}
 use Rattle.circuits.proofs.MadeSteps.{Deed, after, step_made}
-use Rattle.circuits.proofs.Resting.{Passed, passes_one, given_for}
-use Rattle.circuits.proofs.Draining.{Comes, start_comes, led_comes}
+use Rattle.circuits.proofs.Rest.OneRest.{Passed, passes_one, given_for}
+use Rattle.circuits.proofs.Rest.Inits.{Comes, start_comes, led_comes}
 
 -- lists of at most one token
 abbrev AtMostOne : List Token → Type 0
@@ -94,7 +94,7 @@ length_rest n (x ∷ before) behind = ap suc (length_rest n before behind)
 
 module _ (c : Circuit) where
   -- a Fork or Buffer with a token before it
-  record Ready (s : State) (n : Name) : Type 0 where
+  record Ready (s : CircuitState) (n : Name) : Type 0 where
     kind : Kind
     is_kind : c.kind_at n ≡ Some kind
     passes : PassesThrough kind
@@ -102,11 +102,11 @@ module _ (c : Circuit) where
     behind : List Token
     waits : s.wires (first_port n) ≡ token ∷ behind
 
-  ready_at : (s : State) (n : Name) (k : Kind) → c.kind_at n ≡ Some k → PassesThrough k → (xs : List Token) → s.wires (first_port n) ≡ xs → Ready s n ⊎ (Ready s n → ⊥)
+  ready_at : (s : CircuitState) (n : Name) (k : Kind) → c.kind_at n ≡ Some k → PassesThrough k → (xs : List Token) → s.wires (first_port n) ≡ xs → Ready s n ⊎ (Ready s n → ⊥)
   ready_at s n k e passes [] w = inr (λ r. let z : [] ≡ r.token ∷ r.behind = sym w ∙ r.waits in cc)
   ready_at s n k e passes (v ∷ vs) w = inl (record { kind = k; is_kind = e; passes = passes; token = v; behind = vs; waits = w })
 
-  ready_kind : (s : State) (n : Name) (o : Option Kind) → c.kind_at n ≡ o → Ready s n ⊎ (Ready s n → ⊥)
+  ready_kind : (s : CircuitState) (n : Name) (o : Option Kind) → c.kind_at n ≡ o → Ready s n ⊎ (Ready s n → ⊥)
   ready_kind s n None e = inr (λ r. let z : None ≡ Some r.kind = sym e ∙ r.is_kind in cc)
   ready_kind s n (Some k) e =
       elim (passes_cases k) [
@@ -114,36 +114,36 @@ module _ (c : Circuit) where
         | inr stays ↦ inr (λ r. stays (subst PassesThrough (same_Some r.kind k (sym r.is_kind ∙ e)) r.passes))
       ]
 
-  ready_or_not : (s : State) (n : Name) → Ready s n ⊎ (Ready s n → ⊥)
+  ready_or_not : (s : CircuitState) (n : Name) → Ready s n ⊎ (Ready s n → ⊥)
   ready_or_not s n = ready_kind s n (c.kind_at n) refl
 
   -- one of these that can fire, or none
-  data Pick (s : State) (todo : List Name) : Type 0 where
+  data Pick (s : CircuitState) (todo : List Name) : Type 0 where
     none : ((m : Name) → Among m todo → Ready s m → ⊥) → Pick s todo
     some : (before behind : List Name) (n : Name) → todo ≡ before ++ n ∷ behind → Ready s n → Pick s todo
 
-  pick_more : (s : State) (x : Name) (todo : List Name) → (Ready s x → ⊥) → Pick s todo → Pick s (x ∷ todo)
+  pick_more : (s : CircuitState) (x : Name) (todo : List Name) → (Ready s x → ⊥) → Pick s todo → Pick s (x ∷ todo)
   pick_more s x todo idle (none h) = none (λ m a r. elim a [ inl e ↦ idle (subst (Ready s) e r) | inr b ↦ h m b r ])
   pick_more s x todo idle (some before behind n e r) = some (x ∷ before) behind n (ap (λ z. x ∷ z) e) r
 
-  pick : (s : State) (todo : List Name) → Pick s todo
+  pick : (s : CircuitState) (todo : List Name) → Pick s todo
   pick s [] = none (λ m a r. a)
   pick s (x ∷ todo) =
       elim (ready_or_not s x) [ inl r ↦ some [] todo x refl r | inr idle ↦ pick_more s x todo idle (pick s todo) ]
 
   -- it fires
-  deed : (s : State) (n : Name) → Ready s n → Deed
+  deed : (s : CircuitState) (n : Name) → Ready s n → Deed
   deed s n r = record { node = n; kind = r.kind; label = Fire 0; taken = one r.token ∷ []; given = given_for r.kind r.token; new = s.slots n }
 
-  next : (s : State) (n : Name) → Ready s n → State
+  next : (s : CircuitState) (n : Name) → Ready s n → CircuitState
   next s n r = after c s (deed s n r)
 
-  fires : (s : State) (n : Name) (r : Ready s n) → Step c s n (Fire 0) (next s n r)
+  fires : (s : CircuitState) (n : Name) (r : Ready s n) → Step c s n (Fire 0) (next s n r)
   unfolding deed next
   fires s n r = step_made c s (deed s n r) (record { is_kind = r.is_kind; acts = passes_token r.kind r.passes r.token (s.slots n); stands = ((r.behind, r.waits), tt) })
 
   -- what holds where these have fired, each once
-  record Once (fired : Name → Bool) (s : State) : Type 0 where
+  record Once (fired : Name → Bool) (s : CircuitState) : Type 0 where
     unarrived : (p q : Port) (k : Kind) → c.feeder p ≡ Some q → c.kind_at q.node ≡ Some k → PassesThrough k → fired q.node ≡ false → s.wires p ≡ []
     gone : (n : Name) → fired n ≡ true → s.wires (first_port n) ≡ []
     few : (p : Port) → AtMostOne (s.wires p)
@@ -166,7 +166,7 @@ module _ (c : Circuit) where
   no_token : (xs : List Token) (v : Token) (vs : List Token) → xs ≡ [] → xs ≡ v ∷ vs → ⊥
   no_token xs v vs e f = let z : [] ≡ v ∷ vs = sym e ∙ f in cc
 
-  module _ (fired : Name → Bool) (s : State) (once : Once fired s) (n : Name) (r : Ready s n) (t : State) (st : Step c s n (Fire 0) t) where
+  module _ (fired : Name → Bool) (s : CircuitState) (once : Once fired s) (n : Name) (r : Ready s n) (t : CircuitState) (st : Step c s n (Fire 0) t) where
     through : Passed r.kind (s.slots n) st.taken st.given (t.slots n)
     through = passes_one r.kind r.passes 0 (s.slots n) st.taken st.given (t.slots n) (acts_at c s n (Fire 0) t st r.kind r.is_kind)
 
@@ -282,18 +282,18 @@ module _ (c : Circuit) where
       }
 
   -- led firings until none is left
-  record Found (s : State) : Type 0 where
+  record Found (s : CircuitState) : Type 0 where
     firings : List Firing
     led : AllByRecursion (λ f. Led c f.node) firings
-    end : State
+    end : CircuitState
     leads : Firings c s firings end
-    ends : (n : Name) (choice : ℕ) (t : State) → Led c n → Step c end n (Fire choice) t → ⊥
+    ends : (n : Name) (choice : ℕ) (t : CircuitState) → Led c n → Step c end n (Fire choice) t → ⊥
 
   Waiting : (Name → Bool) → List Name → Type 0
   Waiting fired todo = (m : Name) (k : Kind) → c.kind_at m ≡ Some k → fired m ≡ false → Among m todo
 
-  none_fires : (fired : Name → Bool) (s : State) (todo : List Name) → Once fired s → Waiting fired todo → ((m : Name) → Among m todo → Ready s m → ⊥) →
-      (n : Name) (choice : ℕ) (t : State) → Led c n → Step c s n (Fire choice) t → ⊥
+  none_fires : (fired : Name → Bool) (s : CircuitState) (todo : List Name) → Once fired s → Waiting fired todo → ((m : Name) → Among m todo → Ready s m → ⊥) →
+      (n : Name) (choice : ℕ) (t : CircuitState) → Led c n → Step c s n (Fire choice) t → ⊥
   unfolding Waiting
   none_fires fired s todo once waiting none_ready n choice t led st =
       let by = passes_one led.kind led.passes choice (s.slots n) st.taken st.given (t.slots n) (acts_at c s n (Fire choice) t st led.kind led.is_kind) in
@@ -306,14 +306,14 @@ module _ (c : Circuit) where
             (record { kind = led.kind; is_kind = led.is_kind; passes = led.passes; token = by.token; behind = st.between (first_port n); waits = wire })
       ]
 
-  found_here : (fired : Name → Bool) (s : State) (todo : List Name) → Once fired s → Waiting fired todo → ((m : Name) → Among m todo → Ready s m → ⊥) → Found s
+  found_here : (fired : Name → Bool) (s : CircuitState) (todo : List Name) → Once fired s → Waiting fired todo → ((m : Name) → Among m todo → Ready s m → ⊥) → Found s
   found_here fired s todo once waiting none_ready =
       record { firings = []; led = tt; end = s; leads = refl; ends = none_fires fired s todo once waiting none_ready }
 
-  led_of : (s : State) → Comes c s → (n : Name) → Ready s n → Led c n
+  led_of : (s : CircuitState) → Comes c s → (n : Name) → Ready s n → Led c n
   led_of s comes n r = record { kind = r.kind; is_kind = r.is_kind; passes = r.passes; comes = comes (first_port n) r.token r.behind r.waits }
 
-  found_more : (s : State) → Comes c s → (n : Name) (r : Ready s n) → Found (next s n r) → Found s
+  found_more : (s : CircuitState) → Comes c s → (n : Name) (r : Ready s n) → Found (next s n r) → Found s
   found_more s comes n r found =
       record {
         firings = record { node = n; choice = 0 } ∷ found.firings;
@@ -323,18 +323,18 @@ module _ (c : Circuit) where
         ends = found.ends;
       }
 
-  next_comes : (s : State) → Comes c s → (n : Name) (r : Ready s n) → Comes c (next s n r)
+  next_comes : (s : CircuitState) → Comes c s → (n : Name) (r : Ready s n) → Comes c (next s n r)
   next_comes s comes n r =
       led_comes c s (record { node = n; choice = 0 } ∷ []) (next s n r) (led_of s comes n r, tt) (next s n r, fires s n r, refl) comes
 
-  next_waiting : (fired : Name → Bool) (s : State) (once : Once fired s) (todo before behind : List Name) (n : Name) (r : Ready s n) → todo ≡ before ++ n ∷ behind → Waiting fired todo →
+  next_waiting : (fired : Name → Bool) (s : CircuitState) (once : Once fired s) (todo before behind : List Name) (n : Name) (r : Ready s n) → todo ≡ before ++ n ∷ behind → Waiting fired todo →
       Waiting (also n fired) (before ++ behind)
   unfolding Waiting
   next_waiting fired s once todo before behind n r e waiting m k is idle =
       let away = also_false fired s once n r (next s n r) (fires s n r) m idle in
       among_rest m n away.0 before behind (subst (Among m) e (waiting m k is away.1))
 
-  find_rest : (fuel : ℕ) (todo : List Name) (fired : Name → Bool) (s : State) → length todo ≤ fuel → Once fired s → Comes c s → Waiting fired todo → Found s
+  find_rest : (fuel : ℕ) (todo : List Name) (fired : Name → Bool) (s : CircuitState) → length todo ≤ fuel → Once fired s → Comes c s → Waiting fired todo → Found s
   find_rest zero todo fired s few once comes waiting =
       elim (pick s todo) [
         | none none_ready ↦ found_here fired s todo once waiting none_ready
@@ -351,7 +351,7 @@ module _ (c : Circuit) where
             (still_once fired s once n r (next s n r) (fires s n r)) (next_comes s comes n r) (next_waiting fired s once todo before behind n r e waiting))
       ]
 
-  pub names_rest : (todo : List Name) → ((m : Name) (k : Kind) → c.kind_at m ≡ Some k → Among m todo) → (rest : State) × IsRest c rest
+  pub names_rest : (todo : List Name) → ((m : Name) (k : Kind) → c.kind_at m ≡ Some k → Among m todo) → (rest : CircuitState) × IsRest c rest
   unfolding Waiting
   names_rest todo all =
       let found = find_rest (length todo) todo none_fired (start c) (omega arith) start_once (start_comes c) (λ m k e idle. all m k e) in
@@ -370,6 +370,6 @@ node_among : (g : NamedGraph) (m : Name) (k : Kind) (o : Option Body) → finite
 node_among g m k None e f = let z : None ≡ Some k = f in cc
 node_among g m k (Some body) e f = found_among (finite.entries g.nodes) m body (sym (get-entries g.nodes m) ∙ e)
 
-pub graph_rests : (g : NamedGraph) → (rest : State) × IsRest (circuit_of g) rest
+pub graph_rests : (g : NamedGraph) → (rest : CircuitState) × IsRest (circuit_of g) rest
 graph_rests g =
     names_rest (circuit_of g) (map (λ (e : Name × Body). e.0) (finite.entries g.nodes)) (λ m k e. node_among g m k (finite.get g.nodes m) refl e)

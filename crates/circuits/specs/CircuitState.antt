@@ -15,7 +15,7 @@ pub record Slot : Type 0 where
   pub result : Option Token
 
 -- the tokens of each wire, by the input that it enters, and the slots of each node, oldest first
-pub record State : Type 0 where
+pub record CircuitState : Type 0 where
   pub wires : Port → List Token
   pub slots : Name → List Slot
 
@@ -25,7 +25,7 @@ initial (Some (Init value mark)) = one (single value)
 initial _ = []
 
 -- each wire as its source leaves it, and no slot taken
-abbrev pub start : Circuit → State
+abbrev pub start : Circuit → CircuitState
 start c = record { wires = λ p. initial (kind_of c (c.feeder p)); slots = λ n. [] }
 
 -- what may stand in a slot of a node of this kind: only a Tagger has slots
@@ -43,7 +43,7 @@ TagsDiffer [] = Unit {0}
 TagsDiffer (slot ∷ slots) = HasNoTag slot.tag slots × TagsDiffer slots
 
 -- the tokens of each wire fit its shape, what stands in the slots fits too, and the tags of a node's slots differ
-pub record IsStateOf (c : Circuit) (s : State) : Type 0 where
+pub record IsStateOf (c : Circuit) (s : CircuitState) : Type 0 where
   pub wires : (p : Port) (k : Kind) (a : Shape) → c.kind_at p.node ≡ Some k →
       port_get (ins k) p.port ≡ Some a → AllByRecursion (Fits a) (s.wires p)
   pub slots : (n : Name) (k : Kind) → c.kind_at n ≡ Some k → AllByRecursion (SlotFits k) (s.slots n)

@@ -7,15 +7,16 @@ use Rattle.components.specs.declared.kind.Kind.TheVariants.{Entry, Buffer, Fork}
 use Rattle.components.specs.Name.{Name, Port, port_get}
 use Rattle.components.specs.Kind.{Shape, ins, outs}
 use Rattle.components.specs.Orders.{same_bytes, other_bytes}
+use Rattle.components.specs.Numbered.{single_port}
 use Rattle.circuits.specs.PortTokens.{Token, share, share_from, at_port, one}
 use Rattle.circuits.specs.Circuit.{Circuit, kind_of, Typed}
-use Rattle.circuits.specs.State.{Slot, State, start, initial}
+use Rattle.circuits.specs.CircuitState.{Slot, CircuitState, start, initial}
 use Rattle.circuits.specs.Firing.{Label, Label.Feed, Label.Take, Label.Fire, Acts, Fires}
 use Rattle.circuits.specs.Run.{Step}
-use Rattle.circuits.specs.Buffers.{bypass, drop_node}
+use Rattle.circuits.specs.Buffers.{first_port, bypass, drop_node}
 use Rattle.circuits.proofs.Names.{name_cases}
 use Rattle.circuits.proofs.Steps.{acts_at, share_none, share_other, share_same, append_none}
-use Rattle.circuits.proofs.Sim.{Inner, inner_then, inner_one, inner_none}
+use Rattle.circuits.proofs.Simulation.{Inner, inner_then, inner_one, inner_none}
 use Rattle.circuits.proofs.Matching.{Matches}
 
 -- a kind that passes its one input to its one output
@@ -59,26 +60,26 @@ pub record CanDrop (c : Circuit) (b : Name) : Type 0 where
   pub is_kind : c.kind_at b ≡ Some kind
   pub plain : IsPlain kind shape
   pub before : Port
-  pub is_before : c.feeder (record { node = b; port = 1 }) ≡ Some before
+  pub is_before : c.feeder (first_port b) ≡ Some before
   pub other : before.node ≢ b
 
-abbrev pub held : Name → State → Option Port → List Token
+abbrev pub held : Name → CircuitState → Option Port → List Token
 held b t None = []
-held b t (Some q) = if bytes_eq q.node b then t.wires (record { node = b; port = 1 }) else []
+held b t (Some q) = if bytes_eq q.node b then t.wires (first_port b) else []
 
 -- s has on each wire what stood behind b in t followed by what stands before it
-pub record Ahead (c : Circuit) (b : Name) (s t : State) : Type 0 where
+pub record Ahead (c : Circuit) (b : Name) (s t : CircuitState) : Type 0 where
   pub wires : (p : Port) → p.node ≢ b → s.wires p ≡ t.wires p ++ held b t (c.feeder p)
   pub slots : (n : Name) → n ≢ b → s.slots n ≡ t.slots n
 
 -- one step of another node, in both
-glued : (b : Name) (t w : State) (n : Name) (given : List (List Token)) (before : Option Port) → n ≢ b → w.wires (record { node = b; port = 1 }) ≡ t.wires (record { node = b; port = 1 }) ++ share_from n given before → (rest : List Token) (o : Option Port) → (rest ++ held b t o) ++ share_from n given (bypass b before o) ≡ (rest ++ share_from n given o) ++ held b w o
+glued : (b : Name) (t w : CircuitState) (n : Name) (given : List (List Token)) (before : Option Port) → n ≢ b → w.wires (first_port b) ≡ t.wires (first_port b) ++ share_from n given before → (rest : List Token) (o : Option Port) → (rest ++ held b t o) ++ share_from n given (bypass b before o) ≡ (rest ++ share_from n given o) ++ held b w o
 glued b t w n given before ne e rest None = refl
 glued b t w n given before ne e rest (Some q) =
     elim (name_cases q.node b) [
       | inl is ↦
           let at : Name = b in
-          rw (is.test, share_other n given q (λ x. ne (sym x ∙ is.is)), append-nil rest, e) (append_assoc rest (t.wires (record { node = b; port = 1 })) (share_from n given before))
+          rw (is.test, share_other n given q (λ x. ne (sym x ∙ is.is)), append-nil rest, e) (append_assoc rest (t.wires (first_port b)) (share_from n given before))
       | inr no_one ↦ rw (no_one.test) (ap (λ z. z ++ share n given q) (append-nil rest) ∙ sym (append-nil (rest ++ share n given q)))
     ]
 
@@ -89,21 +90,21 @@ module _ (c : Circuit) (b : Name) (can : CanDrop c b) where
   pub kind_gone : (n : Name) → n ≡ b → (drop_node b c).kind_at n ≡ None
   kind_gone n is = ap (λ z. if z then None else c.kind_at n) (same_bytes n b is)
 
-  pub no_step : (s : State) (n : Name) (l : Label) (t : State) → Step (drop_node b c) s n l t → n ≢ b
+  pub no_step : (s : CircuitState) (n : Name) (l : Label) (t : CircuitState) → Step (drop_node b c) s n l t → n ≢ b
   no_step s n l t st is = let k : None ≡ Some st.kind = sym (kind_gone n is) ∙ st.is_kind in cc
 
-  pub feeder_dropped : (p : Port) → p.node ≢ b → (drop_node b c).feeder p ≡ bypass b (c.feeder (record { node = b; port = 1 })) (c.feeder p)
-  feeder_dropped p ne = ap (λ z. if z then None else bypass b (c.feeder (record { node = b; port = 1 })) (c.feeder p)) (other_bytes p.node b ne)
+  pub feeder_dropped : (p : Port) → p.node ≢ b → (drop_node b c).feeder p ≡ bypass b (c.feeder (first_port b)) (c.feeder p)
+  feeder_dropped p ne = ap (λ z. if z then None else bypass b (c.feeder (first_port b)) (c.feeder p)) (other_bytes p.node b ne)
 
   pub feeder_gone : (p : Port) → p.node ≡ b → (drop_node b c).feeder p ≡ None
-  feeder_gone p is = ap (λ z. if z then None else bypass b (c.feeder (record { node = b; port = 1 })) (c.feeder p)) (same_bytes p.node b is)
+  feeder_gone p is = ap (λ z. if z then None else bypass b (c.feeder (first_port b)) (c.feeder p)) (same_bytes p.node b is)
 
   -- a step of another node of c is a step without b
-  module _ (s t : State) (ahead : Ahead c b s t) (n : Name) (l : Label) (w : State) (ne : n ≢ b) (st : Step c t n l w) where
+  module _ (s t : CircuitState) (ahead : Ahead c b s t) (n : Name) (l : Label) (w : CircuitState) (ne : n ≢ b) (st : Step c t n l w) where
     down_between : Port → List Token
     down_between p = if bytes_eq p.node b then s.wires p else st.between p ++ held b t (c.feeder p)
 
-    pub down_to : State
+    pub down_to : CircuitState
     unfolding down_between
     down_to =
         record {
@@ -139,11 +140,11 @@ module _ (c : Circuit) (b : Name) (can : CanDrop c b) where
               ];
         }
 
-    before_moves : w.wires (record { node = b; port = 1 }) ≡ t.wires (record { node = b; port = 1 }) ++ share_from n st.given (c.feeder (record { node = b; port = 1 }))
+    before_moves : w.wires (first_port b) ≡ t.wires (first_port b) ++ share_from n st.given (c.feeder (first_port b))
     before_moves =
-        st.gives (record { node = b; port = 1 })
-        ∙ ap (λ z. z ++ share_from n st.given (c.feeder (record { node = b; port = 1 })))
-        (sym (st.takes (record { node = b; port = 1 }) ∙ ap (λ z. z ++ st.between (record { node = b; port = 1 })) (share_other n st.taken (record { node = b; port = 1 }) (λ e. ne (sym e)))))
+        st.gives (first_port b)
+        ∙ ap (λ z. z ++ share_from n st.given (c.feeder (first_port b)))
+        (sym (st.takes (first_port b) ∙ ap (λ z. z ++ st.between (first_port b)) (share_other n st.taken (first_port b) (λ e. ne (sym e)))))
 
     pub down_ahead : Ahead c b down_to w
     unfolding down_to down_between
@@ -152,18 +153,18 @@ module _ (c : Circuit) (b : Name) (can : CanDrop c b) where
           wires = λ p away.
               ap (λ z. (if z then s.wires p else st.between p ++ held b t (c.feeder p)) ++ share_from n st.given ((drop_node b c).feeder p)) (other_bytes p.node b away)
               ∙ ap (λ z. (st.between p ++ held b t (c.feeder p)) ++ share_from n st.given z) (feeder_dropped p away)
-              ∙ glued b t w n st.given (c.feeder (record { node = b; port = 1 })) ne before_moves (st.between p) (c.feeder p)
+              ∙ glued b t w n st.given (c.feeder (first_port b)) ne before_moves (st.between p) (c.feeder p)
               ∙ ap (λ z. z ++ held b w (c.feeder p)) (sym (st.gives p));
           slots = λ m away. ap (λ z. if z then s.slots m else w.slots m) (other_bytes m b away);
         }
 
   -- a step without b is a step of c, where c's wires have at their heads what is taken
-  module _ (s t : State) (ahead : Ahead c b s t) (n : Name) (l : Label) (u : State) (st : Step (drop_node b c) s n l u)
+  module _ (s t : CircuitState) (ahead : Ahead c b s t) (n : Name) (l : Label) (u : CircuitState) (st : Step (drop_node b c) s n l u)
       (rest : Port → List Token) (able : (p : Port) → p.node ≢ b → t.wires p ≡ share n st.taken p ++ rest p) where
     up_between : Port → List Token
     up_between p = if bytes_eq p.node b then t.wires p else rest p
 
-    pub up_to : State
+    pub up_to : CircuitState
     up_to =
         record {
           wires = λ p. up_between p ++ share_from n st.given (c.feeder p);
@@ -199,7 +200,7 @@ module _ (c : Circuit) (b : Name) (can : CanDrop c b) where
               ];
         }
 
-    up_before : up_to.wires (record { node = b; port = 1 }) ≡ t.wires (record { node = b; port = 1 }) ++ share_from n st.given (c.feeder (record { node = b; port = 1 }))
+    up_before : up_to.wires (first_port b) ≡ t.wires (first_port b) ++ share_from n st.given (c.feeder (first_port b))
     unfolding up_to up_between
     up_before = rw (same_bytes b b refl)
 
@@ -221,16 +222,11 @@ module _ (c : Circuit) (b : Name) (can : CanDrop c b) where
         record {
           wires = λ p away.
               st.gives p ∙ ap (λ z. st.between p ++ share_from n st.given z) (feeder_dropped p away)
-              ∙ ap (λ z. z ++ share_from n st.given (bypass b (c.feeder (record { node = b; port = 1 })) (c.feeder p))) (between_rest p away)
-              ∙ glued b t up_to n st.given (c.feeder (record { node = b; port = 1 })) (no_step s n l u st) up_before (rest p) (c.feeder p)
+              ∙ ap (λ z. z ++ share_from n st.given (bypass b (c.feeder (first_port b)) (c.feeder p))) (between_rest p away)
+              ∙ glued b t up_to n st.given (c.feeder (first_port b)) (no_step s n l u st) up_before (rest p) (c.feeder p)
               ∙ ap (λ z. z ++ held b up_to (c.feeder p)) (up_wires p away);
           slots = λ m away. up_slots m away;
         }
-
-pub single_port : (a x : Shape) (i : ℕ) → port_get (a ∷ []) i ≡ Some x → i ≡ 1
-single_port a x zero e = let k : None ≡ Some x = e in cc
-single_port a x (suc zero) e = refl
-single_port a x (suc (suc i)) e = let k : None ≡ Some x = e in cc
 
 feed_takes_none : (k : Kind) (v : Token) (old : List Slot) (taken given : List (List Token)) (new : List Slot) → Acts k (Feed v) old taken given new → taken ≡ []
 feed_takes_none (Entry a) v old taken given new h = h.1
@@ -260,15 +256,15 @@ module _ (c : Circuit) (b : Name) (can : CanDrop c b) (ty : Typed c) where
       single_port can.shape w.shape q.port (ap (λ z. port_get z q.port) (sym (ap outs same ∙ can.plain.output)) ∙ w.leaves)
 
   -- when b fires, nothing is seen of it
-  module _ (t : State) (k : ℕ) (w : State) (st : Step c t b (Fire k) w) where
-    pass_at : (s : State) (v : Token) → st.taken ≡ one v ∷ [] → st.given ≡ one v ∷ [] → (p : Port) → p.node ≢ b → (o : Option Port) → c.feeder p ≡ o → s.wires p ≡ t.wires p ++ held b t o → s.wires p ≡ w.wires p ++ held b w o
+  module _ (t : CircuitState) (k : ℕ) (w : CircuitState) (st : Step c t b (Fire k) w) where
+    pass_at : (s : CircuitState) (v : Token) → st.taken ≡ one v ∷ [] → st.given ≡ one v ∷ [] → (p : Port) → p.node ≢ b → (o : Option Port) → c.feeder p ≡ o → s.wires p ≡ t.wires p ++ held b t o → s.wires p ≡ w.wires p ++ held b w o
     pass_at s v et eg p away o f e =
         let kept : t.wires p ≡ st.between p = st.takes p ∙ ap (λ z. z ++ st.between p) (share_other b st.taken p away) in
         let goes : w.wires p ≡ st.between p ++ share_from b (one v ∷ []) o = st.gives p ∙ (λ i. st.between p ++ share_from b (eg i) (f i)) in
         e ∙ ap (λ z. z ++ held b t o) kept ∙ pass_rest o f ∙ ap (λ z. z ++ held b w o) (sym goes)
       where
         before : Port
-        before = record { node = b; port = 1 }
+        before = first_port b
 
         was : t.wires before ≡ one v ++ st.between before
         was = st.takes before ∙ ap (λ z. share b z before ++ st.between before) et ∙ ap (λ z. z ++ st.between before) (share_same b (one v ∷ []) before refl)
@@ -288,7 +284,7 @@ module _ (c : Circuit) (b : Name) (can : CanDrop c b) (ty : Typed c) where
               | inr no_one ↦ rw (no_one.test) (sym (append-nil (st.between p ++ [])))
             ]
 
-    pub pass_ahead : (s : State) → Ahead c b s t → Ahead c b s w
+    pub pass_ahead : (s : CircuitState) → Ahead c b s t → Ahead c b s w
     pass_ahead s ahead =
         let (v, et, eg, en) = can.plain.does k (t.slots b) st.taken st.given (w.slots b) (acts_at c t b (Fire k) w st can.kind can.is_kind) in
         record {
@@ -297,21 +293,21 @@ module _ (c : Circuit) (b : Name) (can : CanDrop c b) (ty : Typed c) where
         }
 
   -- b can fire where a token stands before it
-  pub passing : (t : State) (v : Token) (vs : List Token) → State
+  pub passing : (t : CircuitState) (v : Token) (vs : List Token) → CircuitState
   passing t v vs =
       record {
         wires = λ p. (if bytes_eq p.node b then rest_at vs (λ i. t.wires (record { node = b; port = i })) p.port else t.wires p) ++ share_from b (one v ∷ []) (c.feeder p);
         slots = t.slots;
       }
 
-  pass_takes : (t : State) (v : Token) (vs : List Token) → t.wires (record { node = b; port = 1 }) ≡ v ∷ vs → (p : Port) → t.wires p ≡ share b (one v ∷ []) p ++ (if bytes_eq p.node b then rest_at vs (λ i. t.wires (record { node = b; port = i })) p.port else t.wires p)
+  pass_takes : (t : CircuitState) (v : Token) (vs : List Token) → t.wires (first_port b) ≡ v ∷ vs → (p : Port) → t.wires p ≡ share b (one v ∷ []) p ++ (if bytes_eq p.node b then rest_at vs (λ i. t.wires (record { node = b; port = i })) p.port else t.wires p)
   pass_takes t v vs e p =
       elim (name_cases p.node b) [
         | inl is ↦ rw (is.test) (ap (λ z. t.wires (record { node = z; port = p.port })) is.is ∙ rest_taken v vs (λ i. t.wires (record { node = b; port = i })) e p.port)
         | inr away ↦ rw (away.test)
       ]
 
-  pub pass : (t : State) (v : Token) (vs : List Token) → t.wires (record { node = b; port = 1 }) ≡ v ∷ vs → Step c t b (Fire 0) (passing t v vs)
+  pub pass : (t : CircuitState) (v : Token) (vs : List Token) → t.wires (first_port b) ≡ v ∷ vs → Step c t b (Fire 0) (passing t v vs)
   unfolding passing
   pass t v vs e =
       record {
@@ -326,45 +322,45 @@ module _ (c : Circuit) (b : Name) (can : CanDrop c b) (ty : Typed c) where
         others = λ m h. refl;
       }
 
-  passed : (t : State) (v : Token) (vs : List Token) → (passing t v vs).wires (record { node = b; port = 1 }) ≡ vs
+  passed : (t : CircuitState) (v : Token) (vs : List Token) → (passing t v vs).wires (first_port b) ≡ vs
   unfolding passing
   passed t v vs =
-      ap (λ z. (if z then rest_at vs (λ i. t.wires (record { node = b; port = i })) 1 else t.wires (record { node = b; port = 1 })) ++ share_from b (one v ∷ []) (c.feeder (record { node = b; port = 1 }))) (same_bytes b b refl)
+      ap (λ z. (if z then rest_at vs (λ i. t.wires (record { node = b; port = i })) 1 else t.wires (first_port b)) ++ share_from b (one v ∷ []) (c.feeder (first_port b))) (same_bytes b b refl)
       ∙ ap (λ z. rest_at vs (λ i. t.wires (record { node = b; port = i })) 1 ++ share_from b (one v ∷ []) z) can.is_before
       ∙ ap (λ z. rest_at vs (λ i. t.wires (record { node = b; port = i })) 1 ++ z) (share_other b (one v ∷ []) can.before can.other)
       ∙ append-nil (rest_at vs (λ i. t.wires (record { node = b; port = i })) 1) ∙ rest_one vs (λ i. t.wires (record { node = b; port = i }))
 
   -- b fires until nothing stands before it
-  pub record Drained (s t : State) : Type 0 where
-    pub to : State
+  pub record Drained (s t : CircuitState) : Type 0 where
+    pub to : CircuitState
     pub inner : Inner c t to
     pub ahead : Ahead c b s to
-    pub empty : to.wires (record { node = b; port = 1 }) ≡ []
+    pub empty : to.wires (first_port b) ≡ []
 
-  pub drain : (s : State) (xs : List Token) (t : State) → t.wires (record { node = b; port = 1 }) ≡ xs → Ahead c b s t → Drained s t
+  pub drain : (s : CircuitState) (xs : List Token) (t : CircuitState) → t.wires (first_port b) ≡ xs → Ahead c b s t → Drained s t
   drain s [] t e a = record { to = t; inner = inner_none c t; ahead = a; empty = e }
   drain s (v ∷ vs) t e a =
       let st : Step c t b (Fire 0) (passing t v vs) = pass t v vs e in
       let d = drain s vs (passing t v vs) (passed t v vs) (pass_ahead t 0 (passing t v vs) st s a) in
       record { to = d.to; inner = inner_then c t (passing t v vs) d.to (inner_one c t (passing t v vs) b 0 st) d.inner; ahead = d.ahead; empty = d.empty }
 
-  pub held_none : (w : State) → w.wires (record { node = b; port = 1 }) ≡ [] → (o : Option Port) → held b w o ≡ []
+  pub held_none : (w : CircuitState) → w.wires (first_port b) ≡ [] → (o : Option Port) → held b w o ≡ []
   held_none w e None = refl
   held_none w e (Some q) =
-      elim (bytes_eq q.node b) as (λ z. (if z then w.wires (record { node = b; port = 1 }) else []) ≡ []) [ true ↦ e | false ↦ refl ]
+      elim (bytes_eq q.node b) as (λ z. (if z then w.wires (first_port b) else []) ≡ []) [ true ↦ e | false ↦ refl ]
 
-  pub level : (s w : State) → Ahead c b s w → w.wires (record { node = b; port = 1 }) ≡ [] → (p : Port) → p.node ≢ b → w.wires p ≡ s.wires p
+  pub level : (s w : CircuitState) → Ahead c b s w → w.wires (first_port b) ≡ [] → (p : Port) → p.node ≢ b → w.wires p ≡ s.wires p
   level s w a e p away = append_none (w.wires p) (held b w (c.feeder p)) (held_none w e (c.feeder p)) ∙ sym (a.wires p away)
 
-  initial_ahead : (p : Port) → p.node ≢ b → (o : Option Port) → c.feeder p ≡ o → initial (kind_of (drop_node b c) (bypass b (c.feeder (record { node = b; port = 1 })) o)) ≡ initial (kind_of c o) ++ held b (start c) o
+  initial_ahead : (p : Port) → p.node ≢ b → (o : Option Port) → c.feeder p ≡ o → initial (kind_of (drop_node b c) (bypass b (c.feeder (first_port b)) o)) ≡ initial (kind_of c o) ++ held b (start c) o
   initial_ahead p away None f = refl
   initial_ahead p away (Some q) f =
       elim (name_cases q.node b) [
         | inl is ↦
             rw (is.test)
             (ap (λ z. initial (kind_of (drop_node b c) z)) can.is_before ∙ ap initial (kind_dropped c b can can.before.node can.other)
-            ∙ sym (ap (λ z. initial z ++ initial (kind_of c (c.feeder (record { node = b; port = 1 })))) (ap c.kind_at is.is ∙ can.is_kind)
-            ∙ ap (λ z. z ++ initial (kind_of c (c.feeder (record { node = b; port = 1 })))) can.plain.empty
+            ∙ sym (ap (λ z. initial z ++ initial (kind_of c (c.feeder (first_port b)))) (ap c.kind_at is.is ∙ can.is_kind)
+            ∙ ap (λ z. z ++ initial (kind_of c (c.feeder (first_port b)))) can.plain.empty
             ∙ ap (λ z. initial (kind_of c z)) can.is_before))
         | inr no_one ↦ rw (no_one.test) (ap initial (kind_dropped c b can q.node no_one.is_not) ∙ sym (append-nil (initial (c.kind_at q.node))))
       ]
@@ -388,11 +384,11 @@ module _ (c : Circuit) (b : Name) (can : CanDrop c b) (ty : Typed c) where
             λ p away. ap (λ z. z ++ t.wires p) (sym (ap (λ z. share n z p) none ∙ share_none n p)) in
             (up_to c b can s t a n (Feed v) u st t.wires able, up_step c b can s t a n (Feed v) u st t.wires able, up_ahead c b can s t a n (Feed v) u st t.wires able);
         takes = λ s t u n v is is2 a st.
-            let d = drain s (t.wires (record { node = b; port = 1 })) t refl a in
+            let d = drain s (t.wires (first_port b)) t refl a in
             let able : (p : Port) → p.node ≢ b → d.to.wires p ≡ share n st.taken p ++ st.between p = λ p away. level s d.to d.ahead d.empty p away ∙ st.takes p in
             (d.to, up_to c b can s d.to d.ahead n (Take v) u st st.between able, d.inner, up_step c b can s d.to d.ahead n (Take v) u st st.between able, up_ahead c b can s d.to d.ahead n (Take v) u st st.between able);
         fires = λ s t u n k is is2 a st.
-            let d = drain s (t.wires (record { node = b; port = 1 })) t refl a in
+            let d = drain s (t.wires (first_port b)) t refl a in
             let able : (p : Port) → p.node ≢ b → d.to.wires p ≡ share n st.taken p ++ st.between p = λ p away. level s d.to d.ahead d.empty p away ∙ st.takes p in
             let w = up_to c b can s d.to d.ahead n (Fire k) u st st.between able in
             (w, inner_then c t d.to w d.inner (inner_one c d.to w n k (up_step c b can s d.to d.ahead n (Fire k) u st st.between able)), up_ahead c b can s d.to d.ahead n (Fire k) u st st.between able);

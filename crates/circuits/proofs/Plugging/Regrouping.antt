@@ -6,7 +6,7 @@ use Rattle.components.specs.declared.kind.Kind.TheVariants.{Exit}
 use Rattle.components.specs.Name.{Name, Port}
 use Rattle.components.specs.Orders.{same_bytes, other_bytes}
 use Rattle.circuits.specs.Circuit.{Circuit, Typed}
-use Rattle.circuits.specs.Plug.{Link, link, link_all, redirect, as_buffer, beside, or_else}
+use Rattle.circuits.specs.Plug.{PlugLink, link, link_all, redirect, as_buffer, beside, or_else}
 use Rattle.circuits.proofs.Names.{name_cases}
 use Rattle.circuits.proofs.Beside.{none_some}
 use Rattle.circuits.proofs.Renaming.{circuit_same}
@@ -18,26 +18,26 @@ beside_assoc a b c = circuit_same _ _ (λ n. assoc_at (a.kind_at n) (b.kind_at n
     assoc_at None y z = refl
     assoc_at (Some x) y z = refl
 
-abbrev linked_kind : Link → Name → Option Kind → Option Kind
+abbrev linked_kind : PlugLink → Name → Option Kind → Option Kind
 linked_kind l n k = if bytes_eq n l.entry then None else (if bytes_eq n l.exit then as_buffer k else k)
 
-kind_away : (l : Link) (n : Name) (k : Option Kind) → n ≢ l.entry → n ≢ l.exit → linked_kind l n k ≡ k
+kind_away : (l : PlugLink) (n : Name) (k : Option Kind) → n ≢ l.entry → n ≢ l.exit → linked_kind l n k ≡ k
 kind_away l n k ne nx = rw (other_bytes n l.entry ne, other_bytes n l.exit nx)
 
-redirect_away : (l : Link) (q : Port) → q.node ≢ l.entry → redirect l (Some q) ≡ Some q
+redirect_away : (l : PlugLink) (q : Port) → q.node ≢ l.entry → redirect l (Some q) ≡ Some q
 redirect_away l q ne = ap (λ b. Some (if b then record { node = l.exit; port = q.port } else q)) (other_bytes q.node l.entry ne)
 
 -- the names of the link stand not in c
-pub record Away (c : Circuit) (l : Link) : Type 0 where
+pub record Away (c : Circuit) (l : PlugLink) : Type 0 where
   pub exit : c.kind_at l.exit ≡ None
   pub entry : c.kind_at l.entry ≡ None
 
-away_names : (c : Circuit) (l : Link) → Away c l → (n : Name) (k : Kind) → c.kind_at n ≡ Some k → (z : Option Kind) → linked_kind l n z ≡ z
+away_names : (c : Circuit) (l : PlugLink) → Away c l → (n : Name) (k : Kind) → c.kind_at n ≡ Some k → (z : Option Kind) → linked_kind l n z ≡ z
 away_names c l aw n k e z =
     kind_away l n z (λ is. none_some (c.kind_at n) k (ap c.kind_at is ∙ aw.entry) e) (λ is. none_some (c.kind_at n) k (ap c.kind_at is ∙ aw.exit) e)
 
 -- a link may be made before a circuit that has none of its names comes beside it
-module _ (c d : Circuit) (l : Link) (aw : Away c l) (ty : Typed c) where
+module _ (c d : Circuit) (l : PlugLink) (aw : Away c l) (ty : Typed c) where
   right_kind : (n : Name) (o : Option Kind) → c.kind_at n ≡ o → or_else o (linked_kind l n (d.kind_at n)) ≡ linked_kind l n (or_else o (d.kind_at n))
   right_kind n None e = refl
   right_kind n (Some k) e = sym (away_names c l aw n k e (Some k))
@@ -51,7 +51,7 @@ module _ (c d : Circuit) (l : Link) (aw : Away c l) (ty : Typed c) where
   link_right : beside c (link l d) ≡ link l (beside c d)
   link_right = circuit_same _ _ (λ n. right_kind n (c.kind_at n) refl) (λ p. right_feeder p (c.feeder p) refl)
 
-module _ (c d : Circuit) (l : Link) (aw : Away d l) (ty : Typed d) where
+module _ (c d : Circuit) (l : PlugLink) (aw : Away d l) (ty : Typed d) where
   as_buffer_else : (k : Option Kind) (m : Option Kind) → or_else (as_buffer k) (as_buffer m) ≡ as_buffer (or_else k m)
   as_buffer_else None m = refl
   as_buffer_else (Some (Exit a)) m = refl
@@ -78,23 +78,23 @@ module _ (c d : Circuit) (l : Link) (aw : Away d l) (ty : Typed d) where
   link_left : beside (link l c) d ≡ link l (beside c d)
   link_left = circuit_same _ _ (λ n. left_kind n (d.kind_at n) refl) (λ p. left_feeder p (c.feeder p) (d.feeder p) refl)
 
-pub link_all_right : (ls : List Link) (c d : Circuit) → Typed c → AllByRecursion (Away c) ls → beside c (link_all ls d) ≡ link_all ls (beside c d)
+pub link_all_right : (ls : List PlugLink) (c d : Circuit) → Typed c → AllByRecursion (Away c) ls → beside c (link_all ls d) ≡ link_all ls (beside c d)
 link_all_right [] c d ty h = refl
 link_all_right (l ∷ ls) c d ty h = link_all_right ls c (link l d) ty h.1 ∙ ap (link_all ls) (link_right c d l h.0 ty)
 
-pub link_all_left : (ls : List Link) (c d : Circuit) → Typed d → AllByRecursion (Away d) ls → beside (link_all ls c) d ≡ link_all ls (beside c d)
+pub link_all_left : (ls : List PlugLink) (c d : Circuit) → Typed d → AllByRecursion (Away d) ls → beside (link_all ls c) d ≡ link_all ls (beside c d)
 link_all_left [] c d ty h = refl
 link_all_left (l ∷ ls) c d ty h = link_all_left ls (link l c) d ty h.1 ∙ ap (link_all ls) (link_left c d l h.0 ty)
 
 -- no name of the one link is a name of the other
-pub record Distinct (l m : Link) : Type 0 where
+pub record Distinct (l m : PlugLink) : Type 0 where
   pub exits : m.exit ≢ l.exit
   pub entries : m.entry ≢ l.entry
   pub exit_entry : m.exit ≢ l.entry
   pub entry_exit : m.entry ≢ l.exit
 
 -- two links may change places
-module _ (l m : Link) (h : Distinct l m) (c : Circuit) where
+module _ (l m : PlugLink) (h : Distinct l m) (c : Circuit) where
   swap_kind : (n : Name) (k : Option Kind) → linked_kind l n (linked_kind m n k) ≡ linked_kind m n (linked_kind l n k)
   swap_kind n k =
       elim (name_cases n l.entry) [
@@ -108,7 +108,7 @@ module _ (l m : Link) (h : Distinct l m) (c : Circuit) where
       mine : n ≢ m.entry → n ≢ m.exit → linked_kind l n (linked_kind m n k) ≡ linked_kind m n (linked_kind l n k)
       mine ne nx = ap (linked_kind l n) (kind_away m n k ne nx) ∙ sym (kind_away m n (linked_kind l n k) ne nx)
 
-  redirect_hit : (x : Link) (q : Port) → q.node ≡ x.entry → redirect x (Some q) ≡ Some (record { node = x.exit; port = q.port })
+  redirect_hit : (x : PlugLink) (q : Port) → q.node ≡ x.entry → redirect x (Some q) ≡ Some (record { node = x.exit; port = q.port })
   redirect_hit x q is = ap (λ b. Some (if b then record { node = x.exit; port = q.port } else q)) (same_bytes q.node x.entry is)
 
   swap_feeder : (o : Option Port) → redirect l (redirect m o) ≡ redirect m (redirect l o)
@@ -129,14 +129,14 @@ module _ (l m : Link) (h : Distinct l m) (c : Circuit) where
   link_swap : link l (link m c) ≡ link m (link l c)
   link_swap = circuit_same _ _ (λ n. swap_kind n (c.kind_at n)) (λ p. swap_feeder (c.feeder p))
 
-pub link_past : (l : Link) (ls : List Link) (c : Circuit) → AllByRecursion (Distinct l) ls → link_all ls (link l c) ≡ link l (link_all ls c)
+pub link_past : (l : PlugLink) (ls : List PlugLink) (c : Circuit) → AllByRecursion (Distinct l) ls → link_all ls (link l c) ≡ link l (link_all ls c)
 link_past l [] c h = refl
 link_past l (m ∷ ms) c h = ap (link_all ms) (sym (link_swap l m h.0 c)) ∙ link_past l ms (link m c) h.1
 
-pub link_all_swap : (ls ms : List Link) (c : Circuit) → AllByRecursion (λ l. AllByRecursion (Distinct l) ls) ms → link_all ms (link_all ls c) ≡ link_all ls (link_all ms c)
+pub link_all_swap : (ls ms : List PlugLink) (c : Circuit) → AllByRecursion (λ l. AllByRecursion (Distinct l) ls) ms → link_all ms (link_all ls c) ≡ link_all ls (link_all ms c)
 link_all_swap ls [] c h = refl
 link_all_swap ls (m ∷ ms) c h = ap (link_all ms) (sym (link_past m ls c h.0)) ∙ link_all_swap ls ms (link m c) h.1
 
-pub link_all_append : (ls ms : List Link) (c : Circuit) → link_all (ls ++ ms) c ≡ link_all ms (link_all ls c)
+pub link_all_append : (ls ms : List PlugLink) (c : Circuit) → link_all (ls ++ ms) c ≡ link_all ms (link_all ls c)
 link_all_append [] ms c = refl
 link_all_append (l ∷ ls) ms c = link_all_append ls ms (link l c)

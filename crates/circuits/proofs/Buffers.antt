@@ -1,0 +1,5 @@
+-- Circuits and graphs without a Buffer.
+pub mod Steps
+pub mod Circuits
+pub mod Drains
+pub mod Graphs
