@@ -2,7 +2,7 @@
 use Rattle.std.proofs.Common.{◌≡◌, ◌≢◌, ◌⊎◌, inl, inr, refl, sym, ap, subst, ◌∙◌, List, [], ◌∷◌, ◌++◌, Option, Some, None, append-nil}
 use Rattle.std.specs.List.{AllByRecursion}
 use Rattle.std.proofs.lemmas.Option.{same_Some}
-use Rattle.op_table.specs.Laws.{ValueFits}
+use Rattle.circuits.specs.Values.{ValuesFit}
 use Rattle.port_types.specs.Token.{Fits}
 use Rattle.components.specs.declared.kind.Kind.{Kind}
 use Rattle.components.specs.Name.{Name, Port}
@@ -263,7 +263,7 @@ agree_fits c s u w x h =
 
 module _ (c h g : Circuit) (ch : Apart c h) (cg : Apart c g) (tc : Typed c) (th : Typed h) (tg : Typed g) (R : CircuitState → CircuitState → Type 0) where
   -- a step of c
-  lift_c : ValueFits → (s t : CircuitState) (n : Name) (l : Label) (u : CircuitState) → Lifted c h g R s t → Step c s n l u → (w : CircuitState) × Step c t n l w × Lifted c h g R u w
+  lift_c : ValuesFit → (s t : CircuitState) (n : Name) (l : Label) (u : CircuitState) → Lifted c h g R s t → Step c s n l u → (w : CircuitState) × Step c t n l w × Lifted c h g R u w
   lift_c values s t n l u lf st =
       let fr = frame c tc s t n l u lf.on_c st in (
         fr.to,
@@ -297,7 +297,7 @@ module _ (c h g : Circuit) (ch : Apart c h) (cg : Apart c g) (tc : Typed c) (th 
       }
 
 -- what is refined is refined beside each circuit
-pub beside_sim : ValueFits → (c h g : Circuit) → Apart c h → Apart c g → Typed c → Typed h → Typed g → Sim h g → Sim (beside c h) (beside c g)
+pub beside_sim : ValuesFit → (c h g : Circuit) → Apart c h → Apart c g → Typed c → Typed h → Typed g → Sim h g → Sim (beside c h) (beside c g)
 beside_sim values c h g ch cg tc th tg sim =
     record {
       R = Lifted c h g sim.R;

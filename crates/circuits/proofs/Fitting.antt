@@ -2,7 +2,7 @@
 use Rattle.std.proofs.Common.{◌≡◌, inl, inr, refl, sym, ap, subst, ◌∙◌, List, [], ◌∷◌, ◌++◌, Option, Some, None}
 use Rattle.std.specs.List.{AllByRecursion}
 use Rattle.std.proofs.lemmas.Option.{same_Some}
-use Rattle.op_table.specs.Laws.{ValueFits}
+use Rattle.circuits.specs.Values.{ValuesFit}
 use Rattle.port_types.specs.Token.{Fits}
 use Rattle.components.specs.declared.kind.Kind.{Kind}
 use Rattle.components.specs.declared.kind.Kind.TheVariants.{Exit}
@@ -20,7 +20,7 @@ use Rattle.circuits.proofs.Sides.{PortsFit, side_of, ports_of, Kept}
 use Rattle.circuits.proofs.Rows.{acts_fit, initial_fit}
 
 -- a step keeps a state
-module _ (values : ValueFits) (c : Circuit) (ty : Typed c) (s : CircuitState) (n : Name) (l : Label) (t : CircuitState) (st : Step c s n l t) (h : IsStateOf c s) where
+module _ (values : ValuesFit) (c : Circuit) (ty : Typed c) (s : CircuitState) (n : Name) (l : Label) (t : CircuitState) (st : Step c s n l t) (h : IsStateOf c s) where
   taken_fits : PortsFit (ins st.kind) st.taken
   taken_fits i b e =
       let whole : AllByRecursion (Fits b) (s.wires (record { node = n; port = i })) = h.wires (record { node = n; port = i }) st.kind b st.is_kind e in
@@ -79,11 +79,11 @@ start_fit_at c ty p k a ek ea (Some q) f =
 pub start_fits : (c : Circuit) → Typed c → IsStateOf c (start c)
 start_fits c ty = record { wires = λ p k a ek ea. start_fit_at c ty p k a ek ea (c.feeder p) refl; slots = λ n k e. tt; tags = λ n k e. tt }
 
-pub run_fits : ValueFits → (c : Circuit) → Typed c → (s : CircuitState) (ms : List Move) (t : CircuitState) → Run c s ms t → IsStateOf c s → IsStateOf c t
+pub run_fits : ValuesFit → (c : Circuit) → Typed c → (s : CircuitState) (ms : List Move) (t : CircuitState) → Run c s ms t → IsStateOf c s → IsStateOf c t
 run_fits values c ty s [] t run h = subst (IsStateOf c) run h
 run_fits values c ty s (m ∷ ms) t run h = run_fits values c ty run.0 ms t run.2 (step_fits values c ty s m.node m.label run.0 run.1 h)
 
-pub reached_fits : ValueFits → (c : Circuit) → Typed c → (ms : List Move) (t : CircuitState) → Run c (start c) ms t → IsStateOf c t
+pub reached_fits : ValuesFit → (c : Circuit) → Typed c → (ms : List Move) (t : CircuitState) → Run c (start c) ms t → IsStateOf c t
 reached_fits values c ty ms t run = run_fits values c ty (start c) ms t run (start_fits c ty)
 
 -- what is taken fits

@@ -1,6 +1,6 @@
 -- What the author of a rule shows, and that it gives refinement. That the values of operators fit is a law of `op_table`, which a law function calls.
 use Rattle.std.proofs.Common.{ℕ, map}
-use Rattle.op_table.specs.Laws.{ValueFits}
+use Rattle.circuits.specs.Values.{ValuesFit}
 use Rattle.components.specs.Name.{Name}
 use Rattle.circuits.specs.PortTokens.{Token}
 use Rattle.circuits.specs.Circuit.{Circuit, Typed}
@@ -12,7 +12,7 @@ use Rattle.circuits.proofs.Simulation.{Inner, Sim}
 use Rattle.circuits.proofs.Fitting.{step_fits, run_fits, start_fits, take_fits}
 use Rattle.circuits.proofs.Refining.{sim_refines}
 
-pub inner_fits : ValueFits → (c : Circuit) → Typed c → (s t : CircuitState) → Inner c s t → IsStateOf c s → IsStateOf c t
+pub inner_fits : ValuesFit → (c : Circuit) → Typed c → (s t : CircuitState) → Inner c s t → IsStateOf c s → IsStateOf c t
 inner_fits values c ty s t k h = run_fits values c ty s (map move_of k.firings) t k.leads h
 
 -- what the author of a rule shows: each step of the new circuit is matched in the old one, from states whose tokens fit
@@ -23,7 +23,7 @@ pub record Matches (h g : Circuit) : Type 1 where
   pub takes : (s t u : CircuitState) (n : Name) (v : Token) → IsStateOf h s → IsStateOf g t → R s t → Step h s n (Take v) u → (m w : CircuitState) × Inner g t m × Step g m n (Take v) w × R u w
   pub fires : (s t u : CircuitState) (n : Name) (c : ℕ) → IsStateOf h s → IsStateOf g t → R s t → Step h s n (Fire c) u → (w : CircuitState) × Inner g t w × R u w
 
-pub sim_of : ValueFits → (h g : Circuit) → Typed h → Typed g → Matches h g → Sim h g
+pub sim_of : ValuesFit → (h g : Circuit) → Typed h → Typed g → Matches h g → Sim h g
 sim_of values h g th tg m =
     record {
       R = λ s t. IsStateOf h s × IsStateOf g t × m.R s t;
@@ -40,5 +40,5 @@ sim_of values h g th tg m =
       fits = λ s t u n v a r e st. take_fits h s n v a u e st r.0;
     }
 
-pub matches_refines : ValueFits → (h g : Circuit) → Typed h → Typed g → SamePorts h g → Matches h g → Refines h g
+pub matches_refines : ValuesFit → (h g : Circuit) → Typed h → Typed g → SamePorts h g → Matches h g → Refines h g
 matches_refines values h g th tg same m = sim_refines values h g th tg same (sim_of values h g th tg m)

@@ -2,7 +2,7 @@
 use Rattle.std.proofs.Common.{◌≡◌, ◌≢◌, ℕ, ◌⊎◌, inl, inr, refl, sym, ap, subst, ◌∙◌, if◌then◌else◌, List, [], ◌∷◌, Option, Some, None}
 use Rattle.std.specs.List.{AllByRecursion}
 use Rattle.std.proofs.lemmas.Option.{same_Some}
-use Rattle.op_table.specs.Laws.{ValueFits}
+use Rattle.circuits.specs.Values.{ValuesFit}
 use Rattle.components.specs.declared.kind.Kind.TheVariants.{Entry, Exit}
 use Rattle.components.specs.Name.{Name, Port, port_get}
 use Rattle.components.specs.Kind.{Shape, outs}
@@ -111,12 +111,12 @@ both_all : (c h g : Circuit) → Apart c h → Apart c g → Typed c → Typed h
 both_all c h g ch cg tc th tg same [] j = tt
 both_all c h g ch cg tc th tg same (l ∷ ls) j = (both_one c h g l ch cg tc th tg same j.0, both_all c h g ch cg tc th tg same ls j.1)
 
-pub plug_sim : ValueFits → (c h g : Circuit) (ls : List PlugLink) → Typed c → Typed h → Typed g → SamePorts h g → CanPlug c ls h → Apart c g → Sim h g → Sim (plug c ls h) (plug c ls g)
+pub plug_sim : ValuesFit → (c h g : Circuit) (ls : List PlugLink) → Typed c → Typed h → Typed g → SamePorts h g → CanPlug c ls h → Apart c g → Sim h g → Sim (plug c ls h) (plug c ls g)
 plug_sim values c h g ls tc th tg same can cg sim =
     link_all_sim ls (beside c h) (beside c g) can.once (both_all c h g can.apart cg tc th tg same ls can.joins) (beside_sim values c h g can.apart cg tc th tg sim)
 
 -- a simulation of the modules is a refinement in each surrounding circuit
-pub sim_refines : ValueFits → (h g : Circuit) → Typed h → Typed g → SamePorts h g → Sim h g → Refines h g
+pub sim_refines : ValuesFit → (h g : Circuit) → Typed h → Typed g → SamePorts h g → Sim h g → Refines h g
 sim_refines values h g th tg same sim =
     record {
       new_typed = th;

@@ -8,7 +8,7 @@ use Rattle.std.proofs.lemmas.Option.{same_Some}
 use Rattle.op_table.specs.declared.op.Op.{Op}
 use Rattle.op_table.specs.Operator.{IsTypedOp}
 use Rattle.op_table.specs.Value.{InputsFit, op_value}
-use Rattle.op_table.specs.Laws.{ValueFits}
+use Rattle.circuits.specs.Values.{ValuesFit}
 use Rattle.port_types.specs.Token.{Fits}
 use Rattle.components.specs.declared.kind.Kind.{Kind}
 use Rattle.components.specs.declared.kind.Kind.TheVariants.{Entry, Exit, Buffer, Fork, Join, Split, Operator, Constant, Source0, Sink0, Mux, Branch, Merge, CtrlMerge, Init, Tagger}
@@ -78,10 +78,10 @@ inputs_fit (w ∷ ws) [] e h = cc
 inputs_fit (w ∷ ws) (x ∷ xs) e h =
     All-cons (λ (arg : ℕ × ℕ). arg.1 < 2 ^ arg.0) (w, x) (zip ws xs) h.0.0.0 (inputs_fit ws xs (omega (arith, e)) h.1)
 
-value_fits : ValueFits → (op : Op) (widths numbers : List ℕ) (width : ℕ) → IsTypedOp op widths width → length numbers ≡ length widths →
+value_fits : ValuesFit → (op : Op) (widths numbers : List ℕ) (width : ℕ) → IsTypedOp op widths width → length numbers ≡ length widths →
     SideFits (map field widths) (map (λ number. one (single number)) numbers) → op_value op (zip widths numbers) width < 2 ^ width
 value_fits values op widths numbers width typed e h =
-    values op (zip widths numbers) width (subst (λ z. IsTypedOp op z width) (sym (firsts-zip widths numbers e)) typed) (inputs_fit widths numbers e h)
+    values.operators op (zip widths numbers) width (subst (λ z. IsTypedOp op z width) (sym (firsts-zip widths numbers e)) typed) (inputs_fit widths numbers e h)
 
 -- what holds before one firing of a node
 record Before (k : Kind) (old : List Slot) (taken : List (List Token)) : Type 0 where
@@ -95,7 +95,7 @@ still : (k : Kind) (old : List Slot) (taken given : List (List Token)) (new : Li
 still k old taken given new before same side =
     record { side = side; slots = subst (AllByRecursion (SlotFits k)) (sym same) before.slots; tags = subst TagsDiffer (sym same) before.tags }
 
-fires_fit : ValueFits → (k : Kind) (choice : ℕ) (old : List Slot) (taken given : List (List Token)) (new : List Slot) → Fires k choice old taken given new → Before k old taken → Kept k given new
+fires_fit : ValuesFit → (k : Kind) (choice : ℕ) (old : List Slot) (taken given : List (List Token)) (new : List Slot) → Fires k choice old taken given new → Before k old taken → Kept k given new
 fires_fit values (Entry a) choice old taken given new fires before = absurd fires
 fires_fit values (Exit a) choice old taken given new fires before = absurd fires
 fires_fit values (Buffer a) choice old taken given new (v, z, et, eg, en) before =
@@ -134,14 +134,14 @@ fires_fit values (Init value mark) choice old taken given new (v, z, et, eg, en)
 fires_fit values (Tagger a tags) choice old taken given new fires before =
     tagger_fits a tags before.ok.3 choice old taken given new fires before.side before.slots before.tags
 
-acts_kept : ValueFits → (k : Kind) (l : Label) (old : List Slot) (taken given : List (List Token)) (new : List Slot) → Acts k l old taken given new → Before k old taken → Kept k given new
+acts_kept : ValuesFit → (k : Kind) (l : Label) (old : List Slot) (taken given : List (List Token)) (new : List Slot) → Acts k l old taken given new → Before k old taken → Kept k given new
 acts_kept values k (Fire choice) old taken given new acts before = fires_fit values k choice old taken given new acts before
 acts_kept values (Entry a) (Feed v) old taken given new (fit, et, eg, en) before =
     still (Entry a) old taken given new before en (subst (SideFits (a ∷ [])) (sym eg) ((fit, tt), tt))
 acts_kept values (Exit a) (Take v) old taken given new (et, eg, en) before = still (Exit a) old taken given new before en tt
 acts_kept values _ _ old taken given new acts before = absurd acts
 
-pub acts_fit : ValueFits → (k : Kind) → KindOk k → (l : Label) (old : List Slot) (taken given : List (List Token)) (new : List Slot) → Acts k l old taken given new →
+pub acts_fit : ValuesFit → (k : Kind) → KindOk k → (l : Label) (old : List Slot) (taken given : List (List Token)) (new : List Slot) → Acts k l old taken given new →
     SideFits (ins k) taken → AllByRecursion (SlotFits k) old → TagsDiffer old → Kept k given new
 acts_fit values k ok l old taken given new acts side slots tags =
     acts_kept values k l old taken given new acts (record { ok = ok; side = side; slots = slots; tags = tags })

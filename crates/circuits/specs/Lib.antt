@@ -9,4 +9,5 @@ pub mod Buffers
 pub mod TaggerOrder
 pub mod Root
 pub mod Drains
+pub mod Values
 pub mod Laws

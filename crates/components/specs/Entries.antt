@@ -75,10 +75,10 @@ module _ {K X : Type 0} (R : K → K → Ordering) where
 module _ {K X : Type 0} {R : K → K → Ordering} (o : IsTotalOrder R) (same : IsAntisymmetric R) where
   module _ (e : K × X) (es : List (K × X)) (sorted : T (is_sorted R (e ∷ es))) (k : K) (x : X) (found : find R k es ≡ Some x) where
     -- a key that is found behind an entry is another, and is found with the entry too
-    behind_other : k ≢ e.0
+    pub behind_other : k ≢ e.0
     behind_other is = none-some x (sym (ap (λ (q : K). find R q es) is ∙ find_below R e.0 es (first _ _ sorted)) ∙ found)
 
-    found_behind : find R k (e ∷ es) ≡ Some x
+    pub found_behind : find R k (e ∷ es) ≡ Some x
     found_behind = ap (λ t. cond t (Some e.1) (find R k es)) (other_test o same k e.0 behind_other) ∙ found
 
   -- an entry of a map, with those before and behind it

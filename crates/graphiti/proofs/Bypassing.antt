@@ -1,5 +1,6 @@
 -- Taking a Buffer out and joining what fed it to what it fed, by names.
 use Rattle.std.proofs.Common.{◌≡◌, ◌≢◌, inr, Bool, true, false, cond, not, ◌||◌, refl, sym, ap, subst, ◌∙◌, Option, Some, None, IsSome, IfSome, is_some, IsSomeAnd, bytes_eq, true≢false}
+use Rattle.std.proofs.lemmas.Bool.{not-true, or_parts}
 use Rattle.std.proofs.lemmas.Option.{none-some}
 use Rattle.std.specs.Option.{option_map}
 use Rattle.std.specs.FinMap as map
@@ -16,7 +17,7 @@ use Rattle.graphiti.specs.Stripped.{IsBufferKind, IsBuffer}
 use Rattle.graphiti.specs.Strips.{Drops, StaysAtTurn}
 use Rattle.components.specs.Lookups.{get_inserted, get_retained, found_if}
 use Rattle.components.specs.Orders.{port_total, port_same, same_bytes}
-use Rattle.graphiti.proofs.Dropping.{Bypasses, neither, buffer_feeds, buffer_output, drops_bypasses, typed_after}
+use Rattle.graphiti.proofs.Dropping.{Bypasses, drops, buffer_feeds, buffer_output, drops_bypasses, typed_after}
 
 -- By names
 
@@ -28,12 +29,9 @@ module _ (g : NamedGraph) (typed : IsTyped g) (name : Name) (source target : Por
   after : NamedGraph
   after = with_wire (without_node g name) source target
 
-  pub drops : (h : NamedGraph) → h ≡ with_wire (without_node g name) source target → Drops g name h
-  drops h is = record { source = source; target = target; buffer = buffer; fed = fed; feeds = feeds; other = other; after = is }
-
   past : Bypasses g name after
   unfolding after
-  past = drops_bypasses g typed name after (drops after refl)
+  past = drops_bypasses g typed name after (drops g name buffer source target fed feeds other after refl)
 
   joined : map.get after.feeders target ≡ Some source
   unfolding after
@@ -57,7 +55,7 @@ module _ (g : NamedGraph) (typed : IsTyped g) (name : Name) (source target : Por
   source_free : (p : Port) → map.get (without_node g name).feeders p ≢ Some source
   source_free p wired =
       let far = found_if (not (is_of name (Some p) || is_of name (map.get g.feeders p))) (map.get g.feeders p) source (sym (feeder_left p) ∙ wired) in
-      let away = neither (is_of name (Some p)) (is_of name (map.get g.feeders p)) far.0 in
+      let away = or_parts (is_of name (Some p)) (is_of name (map.get g.feeders p)) (not-true (is_of name (Some p) || is_of name (map.get g.feeders p)) far.0) in
       let first : p ≡ first_port name = typed.once p (first_port name) source far.1 fed in
       true≢false (sym itself ∙ ap (λ (z : Port). bytes_eq z.node name) (sym first) ∙ away.0)
 

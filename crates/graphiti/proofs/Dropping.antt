@@ -8,10 +8,12 @@ use Rattle.components.specs.declared.kind.Kind.TheVariants.{Buffer}
 use Rattle.components.specs.Name.{Name, Port, port_get}
 use Rattle.components.specs.Kind.{Shape, ins, outs}
 use Rattle.components.specs.Node.{Body}
-use Rattle.components.specs.NamedGraph.{NamedGraph, IsTyped, IsWire, is_of, without_node}
-use Rattle.circuits.specs.Buffers.{first_port}
+use Rattle.components.specs.NamedGraph.{NamedGraph, IsTyped, IsWire, is_of, with_wire, without_node}
+use Rattle.circuits.specs.Buffers.{CanDropBuffer, first_port}
+use Rattle.circuits.specs.Circuit.{circuit_of, kind_of_body}
 use Rattle.graphiti.specs.Stripped.{IsBufferKind, IsBuffer}
 use Rattle.graphiti.specs.Strips.{Drops, Turn}
+use Rattle.components.specs.Numbered.{single_port}
 use Rattle.components.specs.Lookups.{get_inserted, get_not_inserted, get_removed, get_not_removed, get_retained, found_if}
 use Rattle.components.specs.Orders.{name_total, name_same, port_total, port_same, name_cases, port_cases, same_bytes, other_bytes}
 
@@ -36,6 +38,15 @@ buffer_at g name buffer =
     let (shape, kind) = buffer_kind body.kind of_kind in
     record { body = body; shape = shape; is = is; kind = kind }
 
+-- what is left of a Buffer that is taken out, where what fed it is joined to what it fed
+pub drops : (g : NamedGraph) (name : Name) → IsBuffer g name → (source target : Port) → map.get g.feeders (first_port name) ≡ Some source → map.get g.feeders target ≡ Some (first_port name) → source.node ≢ name →
+    (h : NamedGraph) → h ≡ with_wire (without_node g name) source target → Drops g name h
+drops g name buffer source target fed feeds other h is =
+    let at = buffer_at g name buffer in
+    let can : CanDropBuffer (circuit_of g) name =
+    record { kind = Buffer at.shape; is_kind = ap kind_of_body at.is ∙ ap (λ (k : Kind). Some k) at.kind; passes = tt; before = source; is_before = fed; other = other } in
+    record { buffer = buffer; without = record { can = can; target = target; after = feeds; is = is } }
+
 is_buffer_kind : (kind : Kind) → IsBufferKind kind ⊎ ¬ (IsBufferKind kind)
 is_buffer_kind (Buffer shape) = inl tt
 is_buffer_kind _ = inr (λ h. h)
@@ -50,11 +61,6 @@ buffer_cases g name = is_buffer_in (map.get g.nodes name)
 -- what stands at the name in both graphs is the same
 pub same_buffer : (g h : NamedGraph) (name : Name) → map.get g.nodes name ≡ map.get h.nodes name → IsBuffer g name → IsBuffer h name
 same_buffer g h name e = subst (λ found. IsSomeAnd found (λ body. IsBufferKind body.kind)) e
-
-single_port : (shape found : Shape) (i : ℕ) → port_get (shape ∷ []) i ≡ Some found → i ≡ 1
-single_port shape found zero e = absurd (none-some found e)
-single_port shape found (suc zero) e = refl
-single_port shape found (suc (suc i)) e = absurd (none-some found e)
 
 at_first : (p : Port) (name : Name) → p.node ≡ name → p.port ≡ 1 → p ≡ first_port name
 at_first p name e f = λ i. record { node = e i; port = f i }
@@ -107,30 +113,30 @@ module _ (g : NamedGraph) (typed : IsTyped g) (b : Name) (h : NamedGraph) (drop 
   is_far : Port → Bool
   is_far p = not (is_of b (Some p) || is_of b (map.get g.feeders p))
 
-  feeder_after : (p : Port) → p ≢ drop.target → map.get h.feeders p ≡ cond (is_far p) (map.get g.feeders p) None
+  feeder_after : (p : Port) → p ≢ drop.without.target → map.get h.feeders p ≡ cond (is_far p) (map.get g.feeders p) None
   unfolding is_far
   feeder_after p apart =
-      ap (λ (z : NamedGraph). map.get z.feeders p) drop.after
-      ∙ get_not_inserted port_total port_same (without_node g b).feeders drop.target drop.source p apart
+      ap (λ (z : NamedGraph). map.get z.feeders p) drop.without.is
+      ∙ get_not_inserted port_total port_same (without_node g b).feeders drop.without.target drop.without.can.before p apart
       ∙ get_retained port_total port_same g.feeders _ p
 
-  feeder_moved : (p : Port) → p ≡ drop.target → map.get h.feeders p ≡ Some drop.source
+  feeder_moved : (p : Port) → p ≡ drop.without.target → map.get h.feeders p ≡ Some drop.without.can.before
   feeder_moved p is =
-      ap (λ (z : NamedGraph). map.get z.feeders p) drop.after ∙ get_inserted port_total port_same (without_node g b).feeders drop.target drop.source p is
+      ap (λ (z : NamedGraph). map.get z.feeders p) drop.without.is ∙ get_inserted port_total port_same (without_node g b).feeders drop.without.target drop.without.can.before p is
 
   other_name : (name : Name) → bytes_eq name b ≡ false → name ≢ b
   other_name name e is = true≢false (sym (same_bytes name b is) ∙ e)
 
-  moved_away : drop.target.node ≢ b
+  moved_away : drop.without.target.node ≢ b
   moved_away is =
-      let first : drop.target ≡ first_port b = buffer_input g typed b drop.buffer drop.target (first_port b) drop.feeds is in
-      let same : first_port b ≡ drop.source = same_Some (first_port b) drop.source (sym drop.feeds ∙ ap (map.get g.feeders) first ∙ drop.fed) in
-      drop.other (sym (ap (λ (p : Port). p.node) same))
+      let first : drop.without.target ≡ first_port b = buffer_input g typed b drop.buffer drop.without.target (first_port b) drop.without.after is in
+      let same : first_port b ≡ drop.without.can.before = same_Some (first_port b) drop.without.can.before (sym drop.without.after ∙ ap (map.get g.feeders) first ∙ drop.without.can.is_before) in
+      drop.without.can.other (sym (ap (λ (p : Port). p.node) same))
 
   kept : (p q : Port) → p.node ≢ b → q.node ≢ b → map.get g.feeders p ≡ Some q → map.get h.feeders p ≡ Some q
   unfolding is_far
   kept p q other_p other_q wired =
-      let apart : p ≢ drop.target = λ is. other_q (ap (λ (z : Port). z.node) (same_Some q (first_port b) (sym wired ∙ ap (map.get g.feeders) is ∙ drop.feeds))) in
+      let apart : p ≢ drop.without.target = λ is. other_q (ap (λ (z : Port). z.node) (same_Some q (first_port b) (sym wired ∙ ap (map.get g.feeders) is ∙ drop.without.after))) in
       let far : is_far p ≡ true = not_from_false (is_of b (Some p) || is_of b (map.get g.feeders p)) (or_from (is_of b (Some p)) (is_of b (map.get g.feeders p)) (other_bytes p.node b other_p) (ap (is_of b) wired ∙ other_bytes q.node b other_q)) in
       feeder_after p apart ∙ ap (λ t. cond t (map.get g.feeders p) None) far ∙ wired
 
@@ -141,12 +147,12 @@ module _ (g : NamedGraph) (typed : IsTyped g) (b : Name) (h : NamedGraph) (drop 
       (other_name p.node tests.0, other_name q.node (sym (ap (is_of b) far.1) ∙ tests.1))
 
   comes_from : (p q : Port) → map.get h.feeders p ≡ Some q →
-      (p.node ≢ b) × (q.node ≢ b) × ((map.get g.feeders p ≡ Some q) ⊎ ((map.get g.feeders p ≡ Some (first_port b)) × (q ≡ drop.source)))
+      (p.node ≢ b) × (q.node ≢ b) × ((map.get g.feeders p ≡ Some q) ⊎ ((map.get g.feeders p ≡ Some (first_port b)) × (q ≡ drop.without.can.before)))
   comes_from p q wired =
-      elim (port_cases p drop.target) [
+      elim (port_cases p drop.without.target) [
         | inl is ↦
-            let same : q ≡ drop.source = same_Some q drop.source (sym wired ∙ feeder_moved p is) in
-            (λ e. moved_away (sym (ap (λ (z : Port). z.node) is) ∙ e), λ e. drop.other (sym (ap (λ (z : Port). z.node) same) ∙ e), inr (ap (map.get g.feeders) is ∙ drop.feeds, same))
+            let same : q ≡ drop.without.can.before = same_Some q drop.without.can.before (sym wired ∙ feeder_moved p is) in
+            (λ e. moved_away (sym (ap (λ (z : Port). z.node) is) ∙ e), λ e. drop.without.can.other (sym (ap (λ (z : Port). z.node) same) ∙ e), inr (ap (map.get g.feeders) is ∙ drop.without.after, same))
         | inr apart ↦
             let far = found_if (is_far p) (map.get g.feeders p) q (sym (feeder_after p apart) ∙ wired) in
             let others = from_far p q far in
@@ -157,15 +163,15 @@ module _ (g : NamedGraph) (typed : IsTyped g) (b : Name) (h : NamedGraph) (drop 
   drops_bypasses =
       record {
         buffer = drop.buffer;
-        source = drop.source;
-        target = drop.target;
-        fed = drop.fed;
-        feeds = drop.feeds;
-        other_source = drop.other;
-        node_gone = ap (λ (z : NamedGraph). map.get z.nodes b) drop.after ∙ get_removed name_total name_same g.nodes b;
-        node_kept = λ name other. ap (λ (z : NamedGraph). map.get z.nodes name) drop.after ∙ get_not_removed name_total name_same g.nodes b name other;
+        source = drop.without.can.before;
+        target = drop.without.target;
+        fed = drop.without.can.is_before;
+        feeds = drop.without.after;
+        other_source = drop.without.can.other;
+        node_gone = ap (λ (z : NamedGraph). map.get z.nodes b) drop.without.is ∙ get_removed name_total name_same g.nodes b;
+        node_kept = λ name other. ap (λ (z : NamedGraph). map.get z.nodes name) drop.without.is ∙ get_not_removed name_total name_same g.nodes b name other;
         wire_kept = kept;
-        wire_moved = λ p feeds. feeder_moved p (typed.once p drop.target (first_port b) feeds drop.feeds);
+        wire_moved = λ p feeds. feeder_moved p (typed.once p drop.without.target (first_port b) feeds drop.without.after);
         wire_from = comes_from;
       }
 

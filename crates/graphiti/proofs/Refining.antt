@@ -8,33 +8,17 @@ use Rattle.circuits.specs.Refines.{Refines}
 use Rattle.circuits.specs.Buffers.{IsWithoutBuffer}
 use Rattle.circuits.specs.Laws.{RefinesItself, RefinesInSteps, CircuitIsTyped, GraphDropRefines, GraphPutRefines}
 use Rattle.graphiti.specs.Stripped.{IsStripped}
-use Rattle.graphiti.specs.Strips.{Drops, Turn, Turns}
+use Rattle.graphiti.specs.Strips.{Turn, Turns}
 use Rattle.graphiti.specs.Behaviour.{StrippedRefines, StrippedIsRefined}
-use Rattle.graphiti.proofs.Dropping.{buffer_at, turn_typed}
+use Rattle.graphiti.proofs.Dropping.{turn_typed}
 use Rattle.graphiti.proofs.TurnsMade.{turns_end}
 use Rattle.graphiti.proofs.Stripping.{turns_strip, one_stripped}
-
-without_buffer : (g h : NamedGraph) (name : Name) → Drops g name h → IsWithoutBuffer h g name
-without_buffer g h name drop =
-    let at = buffer_at g name drop.buffer in
-    record {
-      body = at.body;
-      shape = at.shape;
-      is_body = at.is;
-      is_buffer = at.kind;
-      source = drop.source;
-      target = drop.target;
-      before = drop.fed;
-      after = drop.feeds;
-      other = drop.other;
-      is = drop.after;
-    }
 
 -- a relation that holds of a typed graph and itself and of a graph without one Buffer and the graph, and goes on from step to step
 module _ (R : NamedGraph → NamedGraph → Type 0) (itself : (g : NamedGraph) → IsTyped g → R g g) (in_steps : (h between g : NamedGraph) → R h between → R between g → R h g) (drop : (h g : NamedGraph) (b : Name) → IsTyped g → IsWithoutBuffer h g b → R h g) where
   by_turn : (g h : NamedGraph) (name : Name) → IsTyped g → Turn g name h → R h g
   by_turn g h name typed (inl stays) = subst (λ z. R z g) stays.1 (itself g typed)
-  by_turn g h name typed (inr dropped) = drop h g name typed (without_buffer g h name dropped)
+  by_turn g h name typed (inr dropped) = drop h g name typed dropped.without
 
   by_turns : (names : List Name) (g h : NamedGraph) → IsTyped g → Turns g names h → R h g
   by_turns [] g h typed same = subst (λ z. R z g) same (itself g typed)

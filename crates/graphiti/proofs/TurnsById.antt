@@ -22,8 +22,8 @@ use Rattle.circuits.specs.Buffers.{first_port}
 use Rattle.graphiti.specs.Stripped.{IsBufferKind, IsBuffer}
 use Rattle.graphiti.specs.Strips.{Drops, StaysAtTurn, Turn, Turns}
 use Rattle.graphiti.specs.Bypass.{IsFedBuffer}
-use Rattle.graphiti.proofs.Dropping.{buffer_feeds, buffer_output, turn_typed}
-use Rattle.graphiti.proofs.Bypassing.{drops, can_join, target_other}
+use Rattle.graphiti.proofs.Dropping.{drops, buffer_feeds, buffer_output, turn_typed}
+use Rattle.graphiti.proofs.Bypassing.{can_join, target_other}
 use Rattle.graphiti.proofs.Meeting.{not_less_itself}
 use Rattle.graphiti.proofs.Turning.{IsAmong, Rise, keys_rise}
 
@@ -94,7 +94,7 @@ module _ (g : GraphValue) (typed : IsTyped g.graph) (id : NodeId) (source : Port
     pub dropped : (k : GraphValue) → k ≡ with_link h source target → IfSome (fin.get g.ids id) (λ name. Drops g.graph name k.graph)
     dropped k joined =
         subst (λ o. IfSome o (λ name. Drops g.graph name k.graph)) (sym is.denotes)
-        (drops g.graph typed is.name (port_of g source) (port_of g target) is.buffer is.fed feeds is.other k.graph
+        (drops g.graph is.name is.buffer (port_of g source) (port_of g target) is.fed feeds is.other k.graph
         (ap (λ v. v.graph) joined ∙ (λ i. with_wire (removed i).graph (left source is.other i) (left target to_other i))))
 
     pub others_kept : (k : GraphValue) → k ≡ with_link h source target → (other : NodeId) → other ≢ id → fin.get k.ids other ≡ fin.get g.ids other

@@ -7,7 +7,7 @@ use Rattle.circuits.specs.Buffers.{first_port}
 use Rattle.graphiti.specs.Stripped.{IsBuffer}
 use Rattle.graphiti.specs.Strips.{Turn, Turns, TurnsEnd}
 use Rattle.components.specs.Orders.{name_cases}
-use Rattle.graphiti.proofs.Dropping.{buffer_cases, buffer_fed, buffer_feeds, buffer_output, turn_typed}
+use Rattle.graphiti.proofs.Dropping.{drops, buffer_cases, buffer_fed, buffer_feeds, buffer_output, turn_typed}
 
 -- a node with what its turn leaves
 abbrev HasTurn : NamedGraph → Name → Type 0
@@ -21,7 +21,7 @@ module _ (g : NamedGraph) (typed : IsTyped g) (name : Name) where
         | inr other ↦
             let (target, feeds) = buffer_feeds g typed name buffer in (
               with_wire (without_node g name) source target,
-              inr (record { source = source; target = target; buffer = buffer; fed = fed; feeds = feeds; other = other; after = refl }),
+              inr (drops g name buffer source target fed feeds other (with_wire (without_node g name) source target) refl),
             )
       ]
 

@@ -1,20 +1,15 @@
 -- Dropping the Buffers of a graph one after the other.
-use Rattle.std.specs.Prelude.{◌≡◌, ◌≢◌, ◌⊎◌, List, [], ◌∷◌, Some}
+use Rattle.std.specs.Prelude.{◌≡◌, ◌⊎◌, List, [], ◌∷◌}
 use Rattle.std.specs.FinMap as map
-use Rattle.components.specs.Name.{Name, Port}
-use Rattle.components.specs.NamedGraph.{NamedGraph, IsTyped, with_wire, without_node}
-use Rattle.circuits.specs.Buffers.{first_port}
+use Rattle.components.specs.Name.{Name}
+use Rattle.components.specs.NamedGraph.{NamedGraph, IsTyped}
+use Rattle.circuits.specs.Buffers.{IsWithoutBuffer}
 use Rattle.graphiti.specs.Stripped.{IsBuffer, FeedsItself, IsStripped}
 
--- without a Buffer that is not wired to itself, what fed it feeds what it fed
+-- without a Buffer that is not wired to itself: what fed it feeds what it fed
 pub record Drops (g : NamedGraph) (name : Name) (h : NamedGraph) : Type 0 where
-  pub source : Port
-  pub target : Port
   pub buffer : IsBuffer g name
-  pub fed : map.get g.feeders (first_port name) ≡ Some source
-  pub feeds : map.get g.feeders target ≡ Some (first_port name)
-  pub other : source.node ≢ name
-  pub after : h ≡ with_wire (without_node g name) source target
+  pub without : IsWithoutBuffer h g name
 
 -- it is no Buffer, or is wired to itself
 abbrev pub StaysAtTurn : NamedGraph → Name → Type 0

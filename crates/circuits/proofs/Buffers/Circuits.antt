@@ -1,7 +1,7 @@
 -- A circuit without a Buffer is typed; each refines the other.
 use Rattle.std.proofs.Common.{◌≡◌, ◌≢◌, inl, inr, refl, sym, ap, subst, ◌∙◌, if◌then◌else◌, [], ◌∷◌, Option, Some, None}
 use Rattle.std.proofs.lemmas.Option.{same_Some}
-use Rattle.op_table.specs.Laws.{ValueFits}
+use Rattle.circuits.specs.Values.{ValuesFit}
 use Rattle.components.specs.declared.kind.Kind.{Kind}
 use Rattle.components.specs.declared.kind.Kind.TheVariants.{Entry, Exit, Buffer, Fork}
 use Rattle.components.specs.Name.{Name, Port, port_get}
@@ -148,10 +148,10 @@ module _ (c : Circuit) (b : Name) (can : CanDrop c b) (ty : Typed c) where
             (kind_kept n (Exit a), λ e. kind_dropped c b can n (λ is. let z : [] ≡ can.shape ∷ [] = ap outs (not_port n (Exit a) e is) ∙ can.plain.output in cc) ∙ e);
       }
 
-  pub drop_refines : ValueFits → Refines (drop_node b c) c
+  pub drop_refines : ValuesFit → Refines (drop_node b c) c
   drop_refines values = matches_refines values (drop_node b c) c drop_typed ty drop_ports (drop_matches c b can ty)
 
-  pub undrop_refines : ValueFits → Refines c (drop_node b c)
+  pub undrop_refines : ValuesFit → Refines c (drop_node b c)
   undrop_refines values =
       matches_refines values c (drop_node b c) ty drop_typed
       (record { entries = λ n a. ((drop_ports.entries n a).1, (drop_ports.entries n a).0); exits = λ n a. ((drop_ports.exits n a).1, (drop_ports.exits n a).0) })
@@ -168,8 +168,8 @@ can_drop_of c b can =
     record { kind = can.kind; shape = a; is_kind = can.is_kind; plain = plain; before = can.before; is_before = can.is_before; other = can.other }
 
 -- a Buffer dropped, and put
-pub dropped : ValueFits → (c : Circuit) (b : Name) → Typed c → CanDropBuffer c b → Refines (drop_node b c) c
+pub dropped : ValuesFit → (c : Circuit) (b : Name) → Typed c → CanDropBuffer c b → Refines (drop_node b c) c
 dropped values c b ty can = drop_refines c b (can_drop_of c b can) ty values
 
-pub put : ValueFits → (c : Circuit) (b : Name) → Typed c → CanDropBuffer c b → Refines c (drop_node b c)
+pub put : ValuesFit → (c : Circuit) (b : Name) → Typed c → CanDropBuffer c b → Refines c (drop_node b c)
 put values c b ty can = undrop_refines c b (can_drop_of c b can) ty values

@@ -2,7 +2,7 @@
 use Rattle.std.proofs.Common.{◌≡◌, ◌≢◌, inl, inr, Bool, true, false, not, ◌||◌, refl, sym, ap, subst, ◌∙◌, cond, if◌then◌else◌, List, Option, Some, None}
 use Rattle.std.specs.FinMap as map
 use Rattle.std.proofs.lemmas.Option.{same_Some}
-use Rattle.op_table.specs.Laws.{ValueFits}
+use Rattle.circuits.specs.Values.{ValuesFit}
 use Rattle.components.specs.Name.{Name, Port}
 use Rattle.components.specs.Kind.{ins}
 use Rattle.components.specs.NamedGraph.{NamedGraph, IsTyped, is_of, without_node, with_wire}
@@ -85,10 +85,10 @@ module _ (h g : NamedGraph) (b : Name) (ty : IsTyped g) (w : IsWithoutBuffer h g
       ap circuit_of w.is
       ∙ circuit_same _ _ kind_at feeder_at
 
-  pub graph_drop_refines : ValueFits → Refines (circuit_of h) (circuit_of g)
+  pub graph_drop_refines : ValuesFit → Refines (circuit_of h) (circuit_of g)
   graph_drop_refines values = subst (λ c. Refines c (circuit_of g)) (sym without_circuit) (dropped values (circuit_of g) b typed w.can)
 
-  pub graph_put_refines : ValueFits → Refines (circuit_of g) (circuit_of h)
+  pub graph_put_refines : ValuesFit → Refines (circuit_of g) (circuit_of h)
   graph_put_refines values = subst (Refines (circuit_of g)) (sym without_circuit) (put values (circuit_of g) b typed w.can)
 
   pub graph_drains : (ins outs : Name → List Token) → Drains (circuit_of g) ins outs → Drains (circuit_of h) ins outs
