@@ -1,13 +1,12 @@
 -- Lists of shapes that are one, and lists of attributes that are one map.
-use Rattle.std.proofs.Common.{◌≡◌, ◌≢◌, ℕ, zero, suc, ◌<◌, inl, inr, Bool, cond, List, [], ◌∷◌, length, get_or, Some, IsTrue, bytes_eq, refl, sym, ap, ◌∙◌, ◌↔◌, arith}
+use Rattle.std.proofs.Common.{◌≡◌, ◌≢◌, ℕ, Bool, List, [], ◌∷◌, get_or, Some, refl, sym, ap, ◌∙◌}
 use Rattle.std.specs.Bool.{Decides}
 use Rattle.std.specs.Cmp.Lexicographic.{pointwise}
 use Rattle.std.specs.Prelude.{nat_eq}
-use Rattle.std.specs.List.{All, AllPairs, Contains, zip, list_all}
+use Rattle.std.specs.List.{All, AllPairs, Contains}
 use Rattle.std.specs.FinMap.{FinMap, find, from_entries, get, get-from_entries, same_map}
 use Rattle.std.proofs.lemmas.Bool.{and_parts, and_from, true≢false}
 use Rattle.std.proofs.lemmas.List.Elements.{All-contains}
-use Rattle.std.proofs.lemmas.Option.{same_Some}
 use Rattle.std.proofs.lemmas.Slice.Eq.{bytes_eq-Decides}
 use Rattle.components.specs.Name.{name_cmp}
 use Rattle.components.specs.Lookups.{answers_by}

@@ -1,11 +1,10 @@
 -- What a node keeps of pairs: in the order of keys, with different keys, and all of pairs that it may keep.
-use Rattle.std.proofs.Common.{◌≡◌, ◌≢◌, inl, inr, ℕ, zero, suc, ◌+◌, ◌<◌, ◌≤◌, Bool, true, false, cond, not, List, [], ◌∷◌, ◌++◌, length, map, take, reverse, get_or, Option, Some, None, Bor, T, ◌&&◌, IsTrue, refl, sym, ap, subst, ◌∙◌, arith, true≢false}
+use Rattle.std.proofs.Common.{◌≡◌, ◌≢◌, inl, inr, ℕ, suc, ◌+◌, ◌<◌, ◌≤◌, Bool, true, false, cond, not, List, [], ◌∷◌, ◌++◌, length, map, take, reverse, get_or, Some, None, Bor, refl, sym, ap, subst, ◌∙◌, arith, true≢false}
 use Rattle.std.specs.Prelude.{filter}
-use Rattle.std.specs.List.{All, AllPairs, Contains}
-use Rattle.std.specs.Ordering.{eq_by_cmp, is_lt}
+use Rattle.std.specs.List.{AllPairs}
 use Rattle.std.specs.BTreeMap.{insert_entry}
-use Rattle.std.specs.FinMap.{FinMap, empty, entries, entries_sorted, entries-insert, find, from_entries, from_entries_push, get, get-entries, get-from_entries, insert, len-empty, len-entries, same_map}
-use Rattle.std.specs.FinMap.Entries.{put, below_all}
+use Rattle.std.specs.FinMap.{empty, entries, entries_sorted, entries-insert, find, from_entries, from_entries_push, get, get-from_entries, insert, len-empty, len-entries}
+use Rattle.std.specs.FinMap.Entries.{put}
 use Rattle.std.proofs.lemmas.Bool.{false_from_ne_true, not-true}
 use Rattle.std.proofs.lemmas.List.{reverse-append, map-id, take_more, take_all, nil_from_length}
 use Rattle.std.proofs.lemmas.List.Elements.{All-contains, All-weaker, filter-append, filter_passes}
@@ -13,7 +12,7 @@ use Rattle.components.specs.declared.kind.Kind.{Kind}
 use Rattle.components.specs.Name.{name_cmp}
 use Rattle.components.specs.Node.{IsOwned, KeptOk, is_owned, kept_of}
 use Rattle.components.proofs.Alike.{Pair}
-use Rattle.components.proofs.ByKey.{Matches, Matches-insert, Matches-values, ref_cmp}
+use Rattle.components.specs.ByKey.{Matches, Matches-insert, Matches-values, ref_cmp}
 use Rattle.components.proofs.Maps.{contains_found, each_found, keys_apart}
 use Rattle.components.proofs.Options.{answer_cases}
 use Rattle.components.specs.Orders.{name_total, name_same}

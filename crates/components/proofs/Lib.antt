@@ -7,5 +7,4 @@ mod PortShapes
 mod PortCounts
 mod Words
 pub mod Alike
-mod ByKey
 mod KeptPairs

@@ -1,5 +1,5 @@
 -- The entries of finite maps over an order in which only equal keys tie.
-use Rattle.std.proofs.Common.{◌≡◌, ◌≢◌, inl, inr, zero, suc, arith, Bool, true, false, cond, T, ◌&&◌, List, [], ◌∷◌, length, get_or, Option, Some, None, Ordering, Less, Equal, Greater, refl, sym, ap, ◌∙◌, true≢false}
+use Rattle.std.proofs.Common.{◌≡◌, ◌≢◌, inl, inr, zero, suc, arith, Bool, true, false, cond, T, ◌&&◌, List, [], ◌∷◌, get_or, Some, Ordering, Less, Equal, Greater, refl, sym, ap, ◌∙◌, true≢false}
 use Rattle.std.specs.Ordering.{is_eq, is_lt}
 use Rattle.std.specs.List.{All, AllPairs, Contains}
 use Rattle.std.specs.Cmp.{IsTotalOrder}

@@ -2,6 +2,7 @@ pub mod Name
 pub mod Lookups
 pub mod Orders
 pub mod Entries
+pub mod ByKey
 pub mod Kind
 pub mod Component
 pub mod Numbered

@@ -1,8 +1,14 @@
 -- The ports of a side have the numbers from 1 to their count.
 use Rattle.std.proofs.Common.{◌≡◌, ℕ, zero, suc, ◌<◌, ◌≤◌, true, List, [], ◌∷◌, length, Some, is_some, refl, sym, true≢false}
+use Rattle.std.specs.Prelude.{◌^◌}
+use Rattle.std.specs.Fmt.{decimal}
 use Rattle.std.proofs.Math.Bridge.{no_suc-le-zero}
 use Rattle.std.proofs.Math.Nat.{le_refl, suc-le-suc_iff, zero-lt-suc}
 use Rattle.std.proofs.lemmas.Option.{none-some}
+use Rattle.std.proofs.lemmas.Fmt.{decimal_injective}
+use Rattle.std.proofs.lemmas.List.{append_cancel_left}
+use Rattle.port_types.specs.declared.side.Side.{Side}
+use Rattle.port_types.specs.PortText.{side_word, port_name}
 use Rattle.components.specs.Name.{port_get}
 
 -- the number of a port that is there
@@ -28,3 +34,7 @@ pub single_port : {A : Type 0} (x y : A) (i : ℕ) → port_get (x ∷ []) i ≡
 single_port x y zero e = absurd (none-some y e)
 single_port x y (suc zero) e = refl
 single_port x y (suc (suc i)) e = absurd (none-some y e)
+
+-- ports of a side with one name have one number
+pub one_number : (side : Side) (a b : ℕ) → a < 2 ^ 64 → b < 2 ^ 64 → port_name side a ≡ port_name side b → a ≡ b
+one_number side a b fits_a fits_b is = decimal_injective a b fits_a fits_b (append_cancel_left (side_word side) (decimal a) (decimal b) is)

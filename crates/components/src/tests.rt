@@ -85,6 +85,13 @@ fn row_of(alloc: Global, kind: &Kind) -> Result<String, Fail> {
     Ok(text)
 }
 
+/// Whether this is the word of the kind's component, which is found by it.
+fn has_word(kind: &Kind, word: &str) -> bool {
+    let component = component_at(kind);
+    word_of(component).as_bytes() == word.as_bytes()
+        && component_of(word.as_bytes()) == Some(component)
+}
+
 #[test]
 fn rows_of_the_table(rt: HostRuntime) -> Result<(), Fail> {
     for (word, row) in [
@@ -108,13 +115,7 @@ fn rows_of_the_table(rt: HostRuntime) -> Result<(), Fail> {
         let kind = kind_of(rt.alloc(), word)?;
         let copy = kind.clone()?;
         assert_eq!(rt; row_of(rt.alloc(), &copy)?.as_str(), row, "{word}");
-        assert!(rt; same_kind(&kind, &copy), "{word}");
-        assert_eq!(rt; word_of(component_at(&kind)), word);
-        assert_eq!(rt;
-            component_of(word.as_bytes()),
-            Some(component_at(&kind)),
-            "{word}"
-        );
+        assert!(rt; same_kind(&kind, &copy) && has_word(&kind, word), "{word}");
     }
     Ok(())
 }

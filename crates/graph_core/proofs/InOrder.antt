@@ -13,7 +13,7 @@ use Rattle.components.specs.Orders.{name_total, name_same, name_cases}
 use Rattle.graph_core.specs.declared.place.NodeId.{NodeId}
 use Rattle.graph_core.specs.Place.{id_of}
 use Rattle.graph_core.specs.GraphValue.{GraphValue, AreInOrder, Denotes, IsGraph, IsNodeAt}
-use Rattle.graph_core.proofs.ByKey.{Matches, Matches-insert, Matches-values, ref_cmp}
+use Rattle.components.specs.ByKey.{Matches, Matches-insert, Matches-values, ref_cmp}
 
 -- the tree has the names and the ids of these nodes
 abbrev AreIds : GraphValue → List (Bor Name × NodeId) → List (Name × Body) → Type 0

@@ -11,6 +11,5 @@ pub mod Cutting
 pub mod Take
 pub mod Graphs
 pub mod OpenPorts
-mod ByKey
 mod InOrder
 mod SameGraphs

@@ -1,34 +1,14 @@
 -- Markers are those of the format.
 use Rattle.std.proofs.Common.{◌≡◌, ◌∙◌, ℕ, zero, suc, ◌+◌, ◌-◌, ◌≤◌, Bool, true, false, List, [], ◌∷◌, ◌++◌, take, Option, Some, None, refl, ap, arith}
-use Rattle.std.specs.Prelude.{◌==◌, if◌then◌else◌}
 use Rattle.std.proofs.lemmas.Option.{same_Some}
 use Rattle.std.specs.Prelude.{IsTrue}
-use Rattle.op_table.specs.declared.op.Op.{Op}
-use Rattle.op_table.specs.declared.op.Op.TheVariants.{Select}
 use Rattle.port_types.specs.declared.side.Side.{Side}
-use Rattle.port_types.specs.declared.side.Side.TheVariants.{Ins, Outs}
-use Rattle.port_types.specs.PortGrammar.{is_marker_or_none, are_marked}
+use Rattle.port_types.specs.PortGrammar.{are_marked}
 use Rattle.components.specs.declared.kind.Kind.{Kind}
-use Rattle.components.specs.declared.kind.Kind.TheVariants.{Operator, Mux, Branch, CtrlMerge}
 use Rattle.components.specs.Kind.{Shape}
 use Rattle.components.specs.Name.{port_get}
-use Rattle.graph_print.specs.CanonicalText.{PrintedPort, condition, yes, no, marker, operand_marker, marked_from}
-
-either : (b : Bool) (x y : Option ℕ) → is_marker_or_none x ≡ true → is_marker_or_none y ≡ true → is_marker_or_none (if b then x else y) ≡ true
-either true x y p q = p
-either false x y p q = q
-
-operand_ok : (op : Op) (number : ℕ) → is_marker_or_none (operand_marker op number) ≡ true
-operand_ok Select number = either (number == 1) condition (if number == 2 then yes else no) refl (either (number == 2) yes no refl refl)
-operand_ok _ number = refl
-
-marker_ok : (kind : Kind) (side : Side) (number : ℕ) → is_marker_or_none (marker kind side number) ≡ true
-marker_ok (Operator op widths width) Ins number = operand_ok op number
-marker_ok (Mux shape) Ins number = either (number == 1) condition None refl refl
-marker_ok (Branch shape) Ins number = either (number == 2) condition None refl refl
-marker_ok (Branch shape) Outs number = either (number == 1) yes no refl refl
-marker_ok (CtrlMerge shape count width) Outs number = either (number == 2) condition None refl refl
-marker_ok _ _ number = refl
+use Rattle.graph_print.specs.CanonicalText.{PrintedPort, marker, marked_from}
+use Rattle.graph_print.specs.Markers.{marker_ok}
 
 pub marked : (kind : Kind) (side : Side) (number : ℕ) (shapes : List Shape) → IsTrue (are_marked (marked_from kind side number shapes))
 marked kind side number [] = refl

@@ -1,3 +1,4 @@
 pub mod CanonicalText
+pub mod Markers
 pub mod PrintedWires
 pub mod DocumentParts

@@ -2,18 +2,14 @@
 use Rattle.std.proofs.Common.{◌≡◌, ◌≢◌, ℕ, zero, suc, ◌+◌, ◌<◌, ◌≤◌, ◌^◌, Bool, true, false, List, [], ◌∷◌, length, Some, None, decimal, refl, sym, ap, ◌∙◌, arith, if◌then◌else◌}
 use Rattle.std.specs.Prelude.{bytes_eq}
 use Rattle.std.proofs.lemmas.Bool.{false_from_ne_true}
-use Rattle.std.proofs.lemmas.Fmt.{decimal_injective}
-use Rattle.std.proofs.lemmas.List.{append_cancel_left}
 use Rattle.std.proofs.lemmas.Slice.Eq.{bytes_eq-Decides}
 use Rattle.port_types.specs.declared.side.Side.{Side}
-use Rattle.port_types.specs.PortText.{side_word, port_name}
+use Rattle.port_types.specs.PortText.{port_name}
 use Rattle.components.specs.Kind.{Shape}
 use Rattle.components.specs.Name.{port_get}
+use Rattle.components.specs.Numbered.{one_number}
 use Rattle.graph_read.specs.GraphReading.{named_in}
 use Rattle.graph_read.specs.GraphSteps.{IsPortThere}
-
-one_number : (side : Side) (a b : ℕ) → a < 2 ^ 64 → b < 2 ^ 64 → port_name side a ≡ port_name side b → a ≡ b
-one_number side a b fits_a fits_b is = decimal_injective a b fits_a fits_b (append_cancel_left (side_word side) (decimal a) (decimal b) is)
 
 -- a text that is the name of none of the ports
 pub not_named : (side : Side) (text : List ℕ) (number : ℕ) (shapes : List Shape) → ((j : ℕ) → number ≤ j → j < number + length shapes → text ≢ port_name side j) → named_in side text number shapes ≡ None

@@ -3,11 +3,10 @@ use Rattle.std.proofs.Common.{◌≡◌, ◌≢◌, ℕ, zero, suc, ◌+◌, ◌
 use Rattle.std.specs.Prelude.{bytes_eq}
 use Rattle.std.proofs.lemmas.Option.{same_Some}
 use Rattle.std.specs.Option.{option_map}
-use Rattle.std.proofs.lemmas.Fmt.{decimal_injective}
-use Rattle.std.proofs.lemmas.List.{append_cancel_left}
 use Rattle.port_types.specs.declared.side.Side.{Side}
-use Rattle.port_types.specs.PortText.{side_word, port_name}
+use Rattle.port_types.specs.PortText.{port_name}
 use Rattle.components.specs.Name.{port_get}
+use Rattle.components.specs.Numbered.{one_number}
 use Rattle.components.specs.Kind.{Shape, ports}
 use Rattle.components.specs.NamedGraph.{NamedGraph, IsTyped}
 use Rattle.components.specs.Laws.{PortsAreShapes}
@@ -22,11 +21,8 @@ last_port (y ∷ xs) (suc zero) x is = omega arith
 last_port (y ∷ xs) (suc (suc i)) x is = omega (arith, last_port xs (suc i) x is)
 
 -- the names of different ports differ
-same_number : (side : Side) (a b : ℕ) → a < 2 ^ 64 → b < 2 ^ 64 → port_name side a ≡ port_name side b → a ≡ b
-same_number side a b small also same = decimal_injective a b small also (append_cancel_left (side_word side) (decimal a) (decimal b) same)
-
 other_name : (side : Side) (a b : ℕ) → a < 2 ^ 64 → b < 2 ^ 64 → a ≢ b → bytes_eq (port_name side a) (port_name side b) ≡ false
-other_name side a b small also other = other_bytes (port_name side a) (port_name side b) (λ same. other (same_number side a b small also same))
+other_name side a b small also other = other_bytes (port_name side a) (port_name side b) (λ same. other (one_number side a b small also same))
 
 -- a port is found by its name
 found_from : (side : Side) (number i : ℕ) (shapes : List Shape) (shape : Shape) → number + length shapes ≤ 1000 → port_get shapes (suc i) ≡ Some shape →

@@ -19,32 +19,17 @@ use Rattle.components.specs.declared.kind.Kind.{Kind}
 use Rattle.components.specs.declared.kind.Kind.TheVariants.{Operator, Mux, Branch, CtrlMerge}
 use Rattle.components.specs.Kind.{Shape, ports, KindOk}
 use Rattle.components.specs.Laws.{PortsAreShapes}
+use Rattle.graph_print.specs.Markers.{marker_ok}
 use Rattle.graph_print.specs.CanonicalText.{PrintedPort, condition, yes, no, operand_marker, marker, marked_from, marked_ports}
 use Rattle.graph_read.specs.NodeReading.{has_star, shapes_in, text_reading}
 use Rattle.graphiti.proofs.PairsBack.{text_of_side}
 
 -- ---- the printed ports are ports of the format
 
-chosen : (b : Bool) (x y : Option ℕ) → is_marker_or_none x ≡ true → is_marker_or_none y ≡ true → is_marker_or_none (cond b x y) ≡ true
-chosen true x y p q = p
-chosen false x y p q = q
-
-operand_marked : (op : Op) (number : ℕ) → is_marker_or_none (operand_marker op number) ≡ true
-operand_marked Select number = chosen (number == 1) condition (cond (number == 2) yes no) refl (chosen (number == 2) yes no refl refl)
-operand_marked op number = refl
-
-is_marked : (kind : Kind) (side : Side) (number : ℕ) → is_marker_or_none (marker kind side number) ≡ true
-is_marked (Operator op widths width) Ins number = operand_marked op number
-is_marked (Mux shape) Ins number = chosen (number == 1) condition None refl refl
-is_marked (Branch shape) Ins number = chosen (number == 2) condition None refl refl
-is_marked (Branch shape) Outs number = chosen (number == 1) yes no refl refl
-is_marked (CtrlMerge shape count width) Outs number = chosen (number == 2) condition None refl refl
-is_marked kind side number = refl
-
 module _ (kind : Kind) (side : Side) where
   all_marked : (number : ℕ) (shapes : List Shape) → are_marked (marked_from kind side number shapes) ≡ true
   all_marked number [] = refl
-  all_marked number (shape ∷ shapes) = and_from (is_marker_or_none (marker kind side number)) (are_marked (marked_from kind side (number + 1) shapes)) (is_marked kind side number) (all_marked (number + 1) shapes)
+  all_marked number (shape ∷ shapes) = and_from (is_marker_or_none (marker kind side number)) (are_marked (marked_from kind side (number + 1) shapes)) (marker_ok kind side number) (all_marked (number + 1) shapes)
 
   same_length : (number : ℕ) (shapes : List Shape) → length (marked_from kind side number shapes) ≡ length shapes
   same_length number [] = refl

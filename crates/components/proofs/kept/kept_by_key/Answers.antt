@@ -1,11 +1,9 @@
-use Rattle.std.proofs.Common.{◌≡◌, ◌∙◌, ◌+◌, ◌<◌, [], true, false, length, map, rules, sym, ap, subst, arith}
+use Rattle.std.proofs.Common.{◌≡◌, ◌∙◌, ◌+◌, ◌<◌, [], true, false, length, rules, sym, ap, subst, arith}
 use Rattle.std.specs.FinMap.{entries, from_entries}
-use Rattle.std.specs.BTreeMap.{insert_entry}
 use Rattle.components.specs.Name.{name_cmp}
 use Rattle.components.specs.Node.{KeptOk, is_owned, kept_of}
 use Rattle.components.specs.Lookups.{from_entries-entries}
 use Rattle.components.specs.Orders.{name_total, name_same}
-use Rattle.components.proofs.ByKey.{ref_cmp}
 use Rattle.components.proofs.KeptPairs.{ArePairs, ArePairs-more, KeptOk-kept_of, in_order, kept_of-all, so_far, so_far-none, so_far-owned}
 use Rattle.components.proofs.kept.kept_by_key.Goals as goal
 use Rattle.components.proofs.kept.kept_by_key.Goals.{then-not-owns+in_ok-insert, else-not-owns}

@@ -2,7 +2,7 @@ use Rattle.std.proofs.Common.{◌≡◌, ◌∙◌, ◌+◌, [], map, None, rule
 use Rattle.std.specs.BTreeMap.{insert_entry}
 use Rattle.std.specs.FinMap as finite
 use Rattle.graph_core.specs.GraphValue.{AreInOrder, IsNodeAt}
-use Rattle.graph_core.proofs.ByKey.{ref_cmp}
+use Rattle.components.specs.ByKey.{ref_cmp}
 use Rattle.graph_core.proofs.InOrder.{SoFar, so_far-nothing, so_far-none, so_far-node, all_in_order}
 use Rattle.graph_core.proofs.by_name.ids_by_name.Goals as goal
 use Rattle.graph_core.proofs.by_name.ids_by_name.Goals.{in-Some+in_ok-insert, in_default}
