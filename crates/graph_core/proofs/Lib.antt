@@ -11,6 +11,9 @@ pub mod Cutting
 pub mod Take
 pub mod Graphs
 pub mod OpenPorts
+pub mod Counting
+mod Exchanging
+mod Exchanged
 mod ByKey
 mod InOrder
 mod SameGraphs
