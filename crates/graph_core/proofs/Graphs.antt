@@ -1,5 +1,5 @@
 -- What every graph is.
-use Rattle.std.proofs.Common.{◌≡◌, ◌<◌, Some, sym, ap, subst, ◌∙◌}
+use Rattle.std.proofs.Common.{refl, ◌≡◌, ◌<◌, ◌≤◌, Some, sym, ap, subst, ◌∙◌}
 use Rattle.std.specs.Option.{option_map}
 use Rattle.std.specs.FinMap as finite
 use Rattle.port_types.specs.declared.side.Side.TheVariants.{Ins, Outs}
@@ -16,7 +16,11 @@ use Rattle.graph_core.specs.Cells.{CellsValue}
 use Rattle.graph_core.specs.GraphValue.{Denotes, IsGraph, port_by}
 use Rattle.graph_core.specs.Inside.{node_at, end_at, ids_of, value_of, IsArena}
 use Rattle.graph_core.proofs.Views.{get_id, get_node, get_feeder}
-use Rattle.graph_core.proofs.Standing.{some_of, some_then, end_live, live_id, wire_behind, one_id, one_port, node_found}
+use Rattle.graph_core.proofs.Standing.{some_of, some_then, end_live, live_id, wire_behind, finds, one_id, one_port, name_known, node_found}
+use Rattle.components.specs.Orders.{name_total, name_same}
+use Rattle.graph_core.specs.Ids.{id_total, id_same}
+use Rattle.graph_core.proofs.Counting.{len_keys, len_paired}
+use Rattle.graph_core.proofs.Tables.{len-map_values}
 use Rattle.graph_core.proofs.Link.{shape_there}
 
 module _ (c : CellsValue) (table : IdsByName) (ok : IsArena c table) where
@@ -57,8 +61,14 @@ module _ (c : CellsValue) (table : IdsByName) (ok : IsArena c table) where
       let to = same_Some _ _ (sym out ∙ ap (end_at c Outs) from ∙ ok.forth b.to b.from b.wired) in
       sym a.is_to ∙ ap (port_by (ids_of c)) to ∙ b.is_to
 
-  pub graph_is : ((id : NodeId) (cell : Cell) → finite.get c.cells id ≡ Some cell → id.index < c.slots) → IsGraph (value_of c table)
-  graph_is within =
+  listed_under : (id : NodeId) (name : Name) → Denotes (value_of c table) id name → finite.get table name ≡ Some id
+  listed_under id name denotes = let (node, live, is) = named id name denotes in ap (finite.get table) (sym is) ∙ ok.listed id node live
+
+  names_under : (name : Name) (id : NodeId) → finite.get table name ≡ Some id → Denotes (value_of c table) id name
+  names_under name id listed = finds c table ok name (Some id) listed
+
+  pub graph_is : ((id : NodeId) (cell : Cell) → finite.get c.cells id ≡ Some cell → id.index < c.slots) → finite.len c.cells ≤ c.slots → IsGraph (value_of c table)
+  graph_is within room =
       record {
         graph = record {
           names = λ name body found. let b = behind name body found in subst IsName b.is_name (ok.nodes b.id b.node b.live).name;
@@ -78,4 +88,7 @@ module _ (c : CellsValue) (table : IdsByName) (ok : IsArena c table) where
             let (node, live, _) = named id name denotes in
             let (cell, found, _) = some_of (λ (cell : Cell). cell.node) (finite.get c.cells id) node live in
             within id cell found;
+        count = sym (len_paired id_total id_same name_total name_same (finite.len (ids_of c)) (ids_of c) table refl listed_under names_under)
+            ∙ sym (len_keys name_total name_same (value_of c table).graph.nodes table (λ name. name_known c table ok name (finite.get table name) refl));
+        room = subst (λ n. n ≤ c.slots) (sym (len-map_values (λ (cell : Cell). cell.node.name) c.cells)) room;
       }

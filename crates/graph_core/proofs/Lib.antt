@@ -11,5 +11,8 @@ pub mod Cutting
 pub mod Take
 pub mod Graphs
 pub mod OpenPorts
+pub mod Counting
+mod Exchanging
+mod Exchanged
 mod InOrder
 mod SameGraphs

@@ -1,5 +1,5 @@
 -- What contracts see of a graph: the graph by names, and which node each id denotes.
-use Rattle.std.specs.Prelude.{◌≡◌, ℕ, ◌<◌, List, [], map, max, Some, unwrap_or, refl}
+use Rattle.std.specs.Prelude.{◌≡◌, ℕ, ◌<◌, ◌≤◌, List, [], map, max, Some, unwrap_or, refl}
 use Rattle.std.specs.FinMap as finite
 use Rattle.std.specs.Coded.{Coded, code_by, coded×, coded_ℕ, coded_list}
 use Rattle.components.specs.declared.node.Node.{Node}
@@ -80,13 +80,15 @@ pub record IsSound (g : NamedGraph) : Type 0 where
   pub wires : (target source : Port) → finite.get g.feeders target ≡ Some source → IsWire g source target
   pub once : (p q source : Port) → finite.get g.feeders p ≡ Some source → finite.get g.feeders q ≡ Some source → p ≡ q
 
--- the ids denote exactly the nodes of the graph, each node is denoted by one, and their indices are below the number of slots
+-- the ids denote exactly the nodes of the graph, each node is denoted by one, and each stands in a slot
 pub record IsGraph (g : GraphValue) : Type 0 where
   pub graph : IsSound g.graph
   pub denoted : (id : NodeId) (name : Name) → Denotes g id name → (body : Body) × (finite.get g.graph.nodes name ≡ Some body)
   pub live : (name : Name) (body : Body) → finite.get g.graph.nodes name ≡ Some body → (id : NodeId) × Denotes g id name
   pub alone : (i j : NodeId) (name : Name) → Denotes g i name → Denotes g j name → i ≡ j
   pub within : (id : NodeId) (name : Name) → Denotes g id name → index_of id < g.slots
+  pub count : finite.len g.ids ≡ finite.len g.graph.nodes
+  pub room : finite.len g.ids ≤ g.slots
 
 -- How it is stored
 

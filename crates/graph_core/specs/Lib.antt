@@ -12,3 +12,5 @@ pub mod Inside
 pub mod Arena
 pub mod Open
 pub mod Within
+pub mod Exchange
+pub mod Steps

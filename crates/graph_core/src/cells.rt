@@ -1,5 +1,5 @@
 //! Nodes by id, in slots.
-ghost use Rattle.std.specs.Prelude.{◌≡◌, None, Some, IfOk, IfErr, OnOk, OnErr, ◌<◌, ◌++◌, ◌∷◌, [], max, slice_get, slice_set};
+ghost use Rattle.std.specs.Prelude.{◌≡◌, None, Some, IfOk, IfErr, OnOk, OnErr, ◌<◌, ◌≤◌, ◌++◌, ◌∷◌, [], max, slice_get, slice_set};
 ghost use Rattle.std.specs.Option.{option_copied};
 ghost use Rattle.std.specs.FinMap as map_of;
 ghost use Rattle.graph_core.specs.declared.place.NodeId.{NodeId};
@@ -146,9 +146,10 @@ impl Cells {
         })
     }
 
-    /// Each id is below the number of slots.
+    /// Each cell stands in a slot.
     pub(crate) fn within(&self)
-        ensures { (id : NodeId) (cell : Cell) → map_of.get self.now.cells id ≡ Some cell → index_of id < self.now.slots }
+        ensures within { (id : NodeId) (cell : Cell) → map_of.get self.now.cells id ≡ Some cell → index_of id < self.now.slots }
+        ensures room { map_of.len self.now.cells ≤ self.now.slots }
     {
         let _ = &self.slots;
     }

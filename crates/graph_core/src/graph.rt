@@ -4,6 +4,7 @@ ghost use Rattle.std.specs.FinMap as finite;
 ghost use Rattle.components.specs.Name.{Name, Port};
 ghost use Rattle.components.specs.Node.{NodeOk};
 ghost use Rattle.components.specs.NamedGraph.{CanWire};
+ghost use Rattle.graph_core.specs.Exchange.{CanExchange, IsExchanged};
 ghost use Rattle.graph_core.specs.GraphValue.{AreInOrder, Denotes, IsGraph, IsNextOf, IsNodeAt, no_nodes, port_of, with_id, with_link, without_id};
 ghost use Rattle.graph_core.specs.Place.{id_of};
 ghost use Rattle.graph_core.specs.Wiring.{Refuses};
@@ -11,6 +12,7 @@ ghost use Rattle.graph_core.specs.Wiring.{Refuses};
 use crate::arena::{end, link, put, take, try_link};
 use crate::by_name::ids_by_name;
 use crate::cells::Cells;
+use crate::exchange::{End, exchanged};
 use crate::names::Names;
 use crate::place::{NodeId, PortAt};
 use components::Node;
@@ -55,6 +57,7 @@ pub struct Graph {
 }
 
 impl Model for Graph {
+    ghost use Rattle.graph_core.specs.Exchange.{CanExchange, IsExchanged};
     ghost use Rattle.graph_core.specs.GraphValue.{GraphValue, graph_code};
     ghost use Rattle.graph_core.specs.Inside.{value_of, IsArena};
 
@@ -118,6 +121,22 @@ impl Graph {
         ensures none { IfNone result (self.new ≡ self.old) }
     {
         take(&mut self.cells, &mut self.names, id)
+    }
+
+    /// Takes the nodes of `gone` out, adds those of `fresh`, and then joins each pair of `wires`, an output and the input that it feeds. A new node may have
+    /// the name of one that goes. The only error is want of memory, and leaves the graph as it was: the steps are made on a copy.
+    pub fn exchange(
+        &mut self,
+        gone: &[NodeId],
+        fresh: Vec<Node>,
+        wires: &[(End, End)],
+    ) -> Result<(), NoMemory>
+        requires { CanExchange self.old gone.now fresh.items wires.now }
+        ensures ok { OnOk result (IsExchanged self.old gone.now fresh.items wires.now self.new) }
+        ensures err { OnErr result (self.new ≡ self.old) }
+    {
+        *self = exchanged(self, self.names.allocator(), gone, fresh, wires)?;
+        Ok(())
     }
 
     /// The live node of this id. `None` exactly where there is none.

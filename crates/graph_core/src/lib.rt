@@ -8,6 +8,7 @@ mod arena;
 mod by_name;
 mod cells;
 mod ends;
+mod exchange;
 mod graph;
 mod names;
 mod open;
@@ -16,6 +17,7 @@ mod same;
 #[cfg(test)]
 mod tests;
 
+pub use exchange::End;
 pub use graph::{AddNode, AddWire, Graph, PortOpen};
 pub use open::check_typed;
 pub use place::{NodeId, PortAt};
