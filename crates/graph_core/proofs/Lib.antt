@@ -7,6 +7,7 @@ pub mod Standing
 pub mod EndChanges
 pub mod Put
 pub mod Link
+mod Joined
 pub mod Cutting
 pub mod Take
 pub mod Graphs

@@ -14,6 +14,10 @@ use Rattle.components.specs.NamedGraph.{NamedGraph, CanWire}
 abbrev pub HasShape : NamedGraph → Side → Port → Shape → Type 0
 HasShape g side p shape = (body : Body) × (finite.get g.nodes p.node ≡ Some body) × (port_get (ports body.kind side) p.port ≡ Some shape)
 
+-- the port is one of a node of the graph
+abbrev pub HasPort : NamedGraph → Side → Port → Type 0
+HasPort g side p = (shape : Shape) × HasShape g side p shape
+
 -- the port stands on a wire
 abbrev pub IsWired : NamedGraph → Side → Port → Type 0
 IsWired g Ins p = (source : Port) × (finite.get g.feeders p ≡ Some source)

@@ -113,6 +113,14 @@ impl Graph {
         Ok(())
     }
 
+    /// Joins an output to an input that are there, on no wire and of one shape. Takes no memory.
+    pub fn join(&mut self, source: PortAt, target: PortAt)
+        requires { CanWire self.old.graph (port_of self.old source) (port_of self.old target) }
+        ensures { self.new ≡ with_link self.old source target }
+    {
+        link(&mut self.cells, source, target);
+    }
+
     /// Takes a node out, with the wires at its ports. The ids of the others stay, and so do the slots. `None` exactly where no live node has the id;
     /// the graph is then as it was. Takes no memory.
     pub fn remove_node(&mut self, id: NodeId) -> Option<Node>

@@ -16,6 +16,7 @@ mod place;
 mod same;
 #[cfg(test)]
 mod tests;
+mod typed;
 
 pub use exchange::End;
 pub use graph::{AddNode, AddWire, Graph, PortOpen};

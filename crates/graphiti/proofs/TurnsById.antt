@@ -1,28 +1,26 @@
 -- A Buffer by its id, and the turns of nodes by their ids.
 use Rattle.std.proofs.Common.{◌≡◌, ◌≢◌, inl, inr, ℕ, suc, ◌+◌, ◌<◌, List, [], ◌∷◌, map, length, get_or, drop, add-one, drop-cons, Option, Some, None, IfSome, IsSomeAnd, refl, sym, ap, subst, ◌∙◌}
-use Rattle.std.specs.Option.{option_map}
 use Rattle.std.specs.FinMap as fin
-use Rattle.graph_core.specs.declared.graph.AddWire.{AddWire}
-use Rattle.graph_core.specs.declared.graph.AddWire.TheVariants.{NoMemory}
+use Rattle.port_types.specs.declared.side.Side.TheVariants.{Ins, Outs}
 use Rattle.components.specs.declared.kind.Kind.TheVariants.{Buffer}
 use Rattle.components.specs.declared.node.Node.{Node}
 use Rattle.components.specs.Name.{Name, Port, name_cmp, port_get}
-use Rattle.components.specs.Kind.{Shape, ins}
+use Rattle.components.specs.Kind.{Shape, ins, outs}
 use Rattle.components.specs.Node.{body_of}
 use Rattle.components.specs.NamedGraph.{NamedGraph, IsTyped, CanWire, with_wire}
-use Rattle.std.proofs.lemmas.Option.{none-some, same_Some}
+use Rattle.std.proofs.lemmas.Option.{same_Some}
 use Rattle.graph_core.specs.declared.place.NodeId.{NodeId}
 use Rattle.graph_core.specs.declared.place.PortAt.{PortAt}
 use Rattle.graph_core.specs.GraphValue.{GraphValue, AreInOrder, Denotes, IsGraph, IsNodeAt, port_of, with_link, without_id}
-use Rattle.graph_core.specs.Wiring.{Refuses}
+use Rattle.graph_core.specs.Wiring.{HasPort}
 use Rattle.components.specs.Lookups.{get_not_removed}
 use Rattle.graph_core.specs.Ids.{id_total, id_same}
-use Rattle.graph_core.specs.Denoting.{port_denoted, denoted_by, port_left, refused_by_memory}
+use Rattle.graph_core.specs.Denoting.{port_denoted, denoted_by, port_left}
 use Rattle.circuits.specs.Buffers.{first_port}
 use Rattle.graphiti.specs.Stripped.{IsBufferKind, IsBuffer}
 use Rattle.graphiti.specs.Strips.{Drops, StaysAtTurn, Turn, Turns}
 use Rattle.graphiti.specs.Bypass.{IsFedBuffer}
-use Rattle.graphiti.proofs.Dropping.{drops, buffer_feeds, buffer_output, turn_typed}
+use Rattle.graphiti.proofs.Dropping.{drops, buffer_at, buffer_output, turn_typed}
 use Rattle.graphiti.proofs.Bypassing.{can_join, target_other}
 use Rattle.graphiti.proofs.Meeting.{not_less_itself}
 use Rattle.graphiti.proofs.Turning.{IsAmong, Rise, keys_rise}
@@ -33,43 +31,45 @@ first_of g id name p denotes first = ap (port_of g) first ∙ port_denoted g (re
 
 -- What feeds a Buffer
 
-module _ (g : GraphValue) (typed : IsTyped g.graph) (id : NodeId) (node : Node) (at : IsNodeAt g id node) (shape : Shape) (kind : node.kind ≡ Buffer shape) (port : PortAt) (first : port ≡ record { node = id; port = 1 }) (fed : Option PortAt)
-    (feeds : option_map (port_of g) fed ≡ fin.get g.graph.feeders (port_of g port)) where
-  pub is_buffer : IsBuffer g.graph node.name
+module _ (g : GraphValue) (typed : IsTyped g.graph) (id : NodeId) (node : Node) (at : IsNodeAt g id node) (shape : Shape) (kind : node.kind ≡ Buffer shape) (port : PortAt) (first : port ≡ record { node = id; port = 1 }) where
+  is_buffer : IsBuffer g.graph node.name
   is_buffer = subst (λ there. IsSomeAnd there (λ body. IsBufferKind body.kind)) (sym at.body) (subst IsBufferKind (sym kind) tt)
 
-  pub feeder : fin.get g.graph.feeders (first_port node.name) ≡ option_map (port_of g) fed
-  feeder = sym (feeds ∙ ap (fin.get g.graph.feeders) (first_of g id node.name port at.denotes first))
+  named : port_of g port ≡ first_port node.name
+  named = first_of g id node.name port at.denotes first
 
-  -- the Buffer's input stands on a wire
-  pub fed_some : fed ≢ None
-  fed_some none =
-      let (source, wired) = typed.inputs (first_port node.name) (body_of node) shape at.body (ap (λ kind. port_get (ins kind) 1) kind) in
-      none-some source (sym (ap (option_map (port_of g)) none) ∙ sym feeder ∙ wired)
+  -- the Buffer has an input
+  pub has_input : HasPort g.graph Ins (port_of g port)
+  has_input = subst (HasPort g.graph Ins) (sym named) (shape, (body_of node, at.body, ap (λ kind. port_get (ins kind) 1) kind))
 
-  -- a Buffer that its own output feeds stays
-  pub stays_itself : (source : PortAt) → fed ≡ Some source → source.node ≡ id → StaysAtTurn g.graph node.name
-  stays_itself source is same =
-      let wired : fin.get g.graph.feeders (first_port node.name) ≡ Some (port_of g source) = feeder ∙ ap (option_map (port_of g)) is in
-      let own : (port_of g source).node ≡ node.name = ap (λ (p : Port). p.node) (port_denoted g source node.name (ap (fin.get g.ids) same ∙ at.denotes)) in
-      inr (wired ∙ ap Some (buffer_output g.graph typed node.name is_buffer (first_port node.name) (port_of g source) wired own))
+  module _ (source : PortAt) (fed : fin.get g.graph.feeders (port_of g port) ≡ Some (port_of g source)) where
+    wired : fin.get g.graph.feeders (first_port node.name) ≡ Some (port_of g source)
+    wired = ap (fin.get g.graph.feeders) (sym named) ∙ fed
 
-  pub fed_other : IsGraph g → (source : PortAt) → fed ≡ Some source → source.node ≢ id → IsFedBuffer g id source
-  fed_other is source some apart =
-      record {
-        name = node.name;
-        denotes = at.denotes;
-        buffer = is_buffer;
-        fed = feeder ∙ ap (option_map (port_of g)) some;
-        other = λ same. apart (is.alone source.node id node.name (denoted_by g is source node.name (body_of node) at.body same) at.denotes);
-      }
+    -- a Buffer that its own output feeds stays
+    pub stays_itself : source.node ≡ id → StaysAtTurn g.graph node.name
+    stays_itself same =
+        let own : (port_of g source).node ≡ node.name = ap (λ (p : Port). p.node) (port_denoted g source node.name (ap (fin.get g.ids) same ∙ at.denotes)) in
+        inr (wired ∙ ap Some (buffer_output g.graph typed node.name is_buffer (first_port node.name) (port_of g source) wired own))
+
+    pub fed_other : IsGraph g → source.node ≢ id → IsFedBuffer g id source
+    fed_other is apart =
+        record {
+          name = node.name;
+          denotes = at.denotes;
+          buffer = is_buffer;
+          fed = wired;
+          other = λ same. apart (is.alone source.node id node.name (denoted_by g is source node.name (body_of node) at.body same) at.denotes);
+        }
 
 -- A Buffer taken out
 
 module _ (g : GraphValue) (typed : IsTyped g.graph) (id : NodeId) (source : PortAt) (is : IsFedBuffer g id source) where
-  -- its output stands on a wire
-  pub feeds_some : (p : PortAt) → p ≡ record { node = id; port = 1 } → ((target : Port) → fin.get g.graph.feeders target ≢ Some (port_of g p)) → ⊥
-  feeds_some p first none = let (to, feeds) = buffer_feeds g.graph typed is.name is.buffer in none to (feeds ∙ ap Some (sym (first_of g id is.name p is.denotes first)))
+  -- the Buffer has an output
+  pub has_output : (p : PortAt) → p ≡ record { node = id; port = 1 } → HasPort g.graph Outs (port_of g p)
+  has_output p first =
+      let at = buffer_at g.graph is.name is.buffer in
+      subst (HasPort g.graph Outs) (sym (first_of g id is.name p is.denotes first)) (at.shape, (at.body, at.is, ap (λ kind. port_get (outs kind) 1) at.kind))
 
   module _ (target p : PortAt) (first : p ≡ record { node = id; port = 1 }) (wired : fin.get g.graph.feeders (port_of g target) ≡ Some (port_of g p)) (h : GraphValue) (removed : h ≡ without_id g id is.name) where
     feeds : fin.get g.graph.feeders (port_of g target) ≡ Some (first_port is.name)
@@ -87,9 +87,6 @@ module _ (g : GraphValue) (typed : IsTyped g.graph) (id : NodeId) (source : Port
         (subst (λ q. CanWire (without_id g id is.name).graph q (port_of h target)) (sym (left source is.other))
         (subst (λ q. CanWire (without_id g id is.name).graph (port_of g source) q) (sym (left target to_other))
         (can_join g.graph typed is.name (port_of g source) (port_of g target) is.buffer is.fed feeds is.other)))
-
-    pub no_fault : (fault : AddWire) → Refuses h.graph (port_of h source) (port_of h target) fault → fault ≡ NoMemory
-    no_fault = refused_by_memory h.graph (port_of h source) (port_of h target) can
 
     pub dropped : (k : GraphValue) → k ≡ with_link h source target → IfSome (fin.get g.ids id) (λ name. Drops g.graph name k.graph)
     dropped k joined =

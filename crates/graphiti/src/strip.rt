@@ -1,5 +1,5 @@
 //! Dropping the Buffers of a graph.
-ghost use Rattle.std.specs.Prelude.{◌≡◌, ◌≢◌, IfOk, OnOk, IfSome, IfNone};
+ghost use Rattle.std.specs.Prelude.{◌≡◌, ◌≢◌, IfOk, IfSome, IfNone};
 ghost use Rattle.std.specs.FinMap as map_of;
 ghost use Rattle.components.specs.NamedGraph.{IsTyped};
 ghost use Rattle.graph_core.specs.GraphValue.{AreInOrder};
@@ -12,7 +12,7 @@ ghost use Rattle.graphiti.specs.Bypass.{IsFedBuffer};
 
 use crate::laws::{only_rings_are_left, stripped_drains, stripped_refines};
 use components::Kind;
-use graph_core::{AddWire, Graph, NodeId, PortAt};
+use graph_core::{Graph, NodeId, PortAt};
 use port_types::NoMemory;
 use std::alloc::Global;
 
@@ -31,31 +31,29 @@ pub fn strip(alloc: Global, mut g: Graph) -> Result<Graph, NoMemory>
     stripped_refines();
     stripped_drains();
     let ids = g.by_name(alloc)?;
-    drop_buffers(&mut g, &ids)?;
+    drop_buffers(&mut g, &ids);
     Ok(g)
 }
 
-/// Gives each node its turn, in the order of the ids.
-fn drop_buffers(g: &mut Graph, ids: &[NodeId]) -> Result<(), NoMemory>
+/// Gives each node its turn, in the order of the ids. Takes no memory.
+fn drop_buffers(g: &mut Graph, ids: &[NodeId])
     requires typed { IsTyped g.old.graph }
     requires order { AreInOrder g.old ids.now }
-    ensures { OnOk result (Turns g.old.graph (map_of.keys g.old.graph.nodes) g.new.graph) }
+    ensures { Turns g.old.graph (map_of.keys g.old.graph.nodes) g.new.graph }
 {
     for id in ids {
-        drop_buffer(g, *id)?;
+        drop_buffer(g, *id);
     }
-    Ok(())
 }
 
 /// Drops the node if it is a Buffer that is not wired to itself: what fed it then feeds what it fed.
-fn drop_buffer(g: &mut Graph, id: NodeId) -> Result<(), NoMemory>
+fn drop_buffer(g: &mut Graph, id: NodeId)
     requires { IsTyped g.old.graph }
-    ensures turn { OnOk result (IfSome (map_of.get g.old.ids id) (λ name. Turn g.old.graph name g.new.graph)) }
-    ensures others { OnOk result ((other : NodeId) → other ≢ id → map_of.get g.new.ids other ≡ map_of.get g.old.ids other) }
+    ensures turn { IfSome (map_of.get g.old.ids id) (λ name. Turn g.old.graph name g.new.graph) }
+    ensures others { (other : NodeId) → other ≢ id → map_of.get g.new.ids other ≡ map_of.get g.old.ids other }
 {
-    match buffer_source(g, id) {
-        Some(source) => bypass(g, id, source),
-        None => Ok(()),
+    if let Some(source) = buffer_source(g, id) {
+        bypass(g, id, source);
     }
 }
 
@@ -69,7 +67,7 @@ fn buffer_source(g: &Graph, id: NodeId) -> Option<PortAt>
     let Kind::Buffer(_) = g.node(id)?.kind else {
         return None;
     };
-    let source = g.wire_into(first_port(id))?;
+    let source = g.source_of(first_port(id));
     if source.node == id {
         None
     } else {
@@ -78,22 +76,15 @@ fn buffer_source(g: &Graph, id: NodeId) -> Option<PortAt>
 }
 
 /// Takes the Buffer out, and joins what fed it to what it fed.
-fn bypass(g: &mut Graph, id: NodeId, source: PortAt) -> Result<(), NoMemory>
+fn bypass(g: &mut Graph, id: NodeId, source: PortAt)
     requires typed { IsTyped g.old.graph }
     requires fed { IsFedBuffer g.old id source }
-    ensures dropped { OnOk result (IfSome (map_of.get g.old.ids id) (λ name. Drops g.old.graph name g.new.graph)) }
-    ensures others { OnOk result ((other : NodeId) → other ≢ id → map_of.get g.new.ids other ≡ map_of.get g.old.ids other) }
+    ensures dropped { IfSome (map_of.get g.old.ids id) (λ name. Drops g.old.graph name g.new.graph) }
+    ensures others { (other : NodeId) → other ≢ id → map_of.get g.new.ids other ≡ map_of.get g.old.ids other }
 {
-    // Each output of a typed graph stands on a wire.
-    let Some(target) = g.wire_from(first_port(id)) else {
-        unreachable!()
-    };
+    let target = g.target_of(first_port(id));
     let _ = g.remove_node(id);
-    match g.add_wire(source, target) {
-        Ok(()) => Ok(()),
-        Err(AddWire::NoMemory) => Err(NoMemory),
-        Err(AddWire::UnknownPort | AddWire::PortTaken | AddWire::ShapeDiffers) => unreachable!(),
-    }
+    g.join(source, target);
 }
 
 /// The only input of a Buffer, and its only output.
