@@ -1,9 +1,8 @@
-use Rattle.std.proofs.Common.{◌≡◌, ◌≢◌, [], ◌∷◌, ◌∙◌, Option, Some, None, Bor, MatchOption, is_none, false, true, true≢false, rules, sym, ap, subst}
+use Rattle.std.proofs.Common.{◌≡◌, ◌≢◌, [], ◌∷◌, ◌∙◌, Option, Some, None, Bor, MatchOption, is_none, false, true≢false, rules, sym, ap, subst}
 use Rattle.std.specs.FinMap as finite
 use Rattle.std.specs.Option.{option_copied}
 use Rattle.components.specs.declared.node.Node.{Node}
 use Rattle.components.specs.Name.{Name}
-use Rattle.components.specs.declared.kind.Kind.TheVariants.{Buffer}
 use Rattle.graph_core.specs.declared.exchange.End.TheVariants.{Fresh}
 use Rattle.graph_core.specs.declared.place.NodeId.{NodeId}
 use Rattle.graph_core.specs.GraphValue.{GraphValue, Denotes, IsNodeAt}
