@@ -15,5 +15,6 @@ pub mod OpenPorts
 pub mod Counting
 mod Exchanging
 mod Exchanged
+mod Looped
 mod InOrder
 mod SameGraphs

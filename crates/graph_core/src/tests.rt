@@ -1,8 +1,8 @@
 //! Worked graphs.
-ghost use Rattle.std.specs.Prelude.{IfOk};
+ghost use Rattle.std.specs.Prelude.{◌≡◌, IfOk};
 ghost use Rattle.components.specs.Node.{NodeOk};
 
-use crate::{Graph, NodeId, PortAt, check_typed, same_graph};
+use crate::{End, Graph, NodeId, PortAt, check_typed, same_graph};
 use components::{Kind, Node, is_name, kind_ok};
 use port_types::{Items, Shape, Text};
 use std::alloc::Global;
@@ -14,7 +14,8 @@ fn byte(alloc: Global) -> Result<Shape, Fail> {
 
 /// A node without kept attributes.
 fn node(alloc: Global, name: &str, kind: Kind) -> Result<Node, Fail>
-    ensures { IfOk result NodeOk }
+    ensures ok { IfOk result NodeOk }
+    ensures is { IfOk result (λ node. node.kind ≡ kind) }
 {
     let name = Text::new(name.as_bytes().to_vec(alloc)?).ok_or("no text")?;
     if !is_name(&name) || !kind_ok(&kind) {
@@ -76,5 +77,41 @@ fn a_free_slot_is_taken_first(rt: HostRuntime) -> Result<(), Fail> {
         [NodeId::new(2), NodeId::new(0), NodeId::new(1)].as_slice()
     );
     assert!(rt; g.wire_into(first(fork)).is_none());
+    Ok(())
+}
+
+/// A Buffer whose ports are joined, in the place of two nodes.
+fn loop_for(g: &mut Graph, alloc: Global, a: NodeId, b: NodeId, name: &str) -> Result<(), Fail> {
+    let buffer = node(alloc, name, Kind::Buffer(byte(alloc)?))?;
+    g.is_graph();
+    if a == b || g.node(a).is_none() || g.node(b).is_none() {
+        return Err("no two nodes".into());
+    }
+    if g.find(buffer.name.bytes()).is_some() {
+        return Err("a name that is taken".into());
+    }
+    let mut fresh = Vec::new(alloc);
+    fresh.push(buffer)?;
+    let port = End::Fresh(0, 1);
+    g.exchange([a, b].as_slice(), fresh, [(port, port)].as_slice())?;
+    Ok(())
+}
+
+#[test]
+fn one_node_for_two(rt: HostRuntime) -> Result<(), Fail> {
+    let alloc = rt.alloc();
+    let mut g = row(alloc)?;
+    let ids = g.by_name(alloc)?;
+    let exit = *ids.first().ok_or("no id")?;
+    let buffer = g.find(b"b".as_slice()).ok_or("no node")?;
+    let entry = g.find(b"a2".as_slice()).ok_or("no node")?;
+    loop_for(&mut g, alloc, entry, buffer, "c")?;
+    let single = g.find(b"c".as_slice()).ok_or("no node")?;
+    assert_eq!(rt; g.wire_from(first(single)), Some(first(single)));
+    assert!(rt; g.wire_into(first(exit)).is_none());
+    loop_for(&mut g, alloc, exit, single, "d")?;
+    assert_eq!(rt; g.slots(), 3);
+    assert_eq!(rt; g.by_name(alloc)?.len(), 1);
+    assert!(rt; check_typed(&g).is_ok());
     Ok(())
 }
