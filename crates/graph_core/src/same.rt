@@ -1,5 +1,5 @@
 //! Whether two graphs are the same by names.
-ghost use Rattle.std.specs.Prelude.{◌≡◌, ◌≢◌, ◌↔◌, ◌≤◌, ℕ, [], IsTrue, MatchOption, Some, unwrap_or};
+ghost use Rattle.std.specs.Prelude.{◌≡◌, ◌≢◌, ◌↔◌, ◌≤◌, ℕ, IsTrue, MatchOption, Some};
 ghost use Rattle.std.specs.FinMap as finite;
 ghost use Rattle.components.specs.Node.{NodeOk, body_of};
 ghost use Rattle.graph_core.specs.GraphValue.{Denotes, name_by, port_of};
