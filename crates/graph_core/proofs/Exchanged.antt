@@ -17,8 +17,8 @@ use Rattle.graph_core.specs.declared.place.NodeId.{NodeId}
 use Rattle.graph_core.specs.Ids.{id_total, id_same}
 use Rattle.graph_core.specs.Place.{id_of}
 use Rattle.graph_core.specs.Denoting.{port_denoted}
-use Rattle.graph_core.specs.GraphValue.{GraphValue, Ids, Denotes, without_id, port_of}
-use Rattle.graph_core.specs.Exchange.{CanExchange, IsAtNode, IsExchanged, end_port, end_ports, name_by, with_fresh, with_nodes, with_wires, without_nodes}
+use Rattle.graph_core.specs.GraphValue.{GraphValue, Ids, Denotes, without_id, port_of, name_by}
+use Rattle.graph_core.specs.Exchange.{CanExchange, IsAtNode, IsExchanged, end_port, end_ports, with_fresh, with_nodes, with_wires, without_nodes}
 use Rattle.graph_core.specs.Steps.{AreAdded, AreDenoted, CanAdd, Fits, IsEndWithin, place_of, with_pairs, without_ids}
 
 module _ {A : Type 0} (P : A → Type 0) where

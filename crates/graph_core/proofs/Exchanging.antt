@@ -11,8 +11,8 @@ use Rattle.components.specs.Node.{NodeOk}
 use Rattle.graph_core.specs.declared.exchange.End.{End}
 use Rattle.graph_core.specs.declared.place.NodeId.{NodeId}
 use Rattle.graph_core.specs.Ids.{id_total, id_same}
-use Rattle.graph_core.specs.GraphValue.{GraphValue, Denotes, with_id, without_id}
-use Rattle.graph_core.specs.Exchange.{name_by, with_nodes}
+use Rattle.graph_core.specs.GraphValue.{GraphValue, Denotes, with_id, without_id, name_by}
+use Rattle.graph_core.specs.Exchange.{with_nodes}
 use Rattle.graph_core.specs.Steps.{AreAdded, AreDenoted, CanAdd, Fits, with_pairs, without_ids}
 use Rattle.graph_core.proofs.SlotLemmas.{push_here, push_other}
 

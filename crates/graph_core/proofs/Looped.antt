@@ -17,8 +17,8 @@ use Rattle.components.specs.Orders.{name_total, name_same, port_total, port_same
 use Rattle.graph_core.specs.declared.exchange.End.{End}
 use Rattle.graph_core.specs.declared.exchange.End.TheVariants.{Fresh}
 use Rattle.graph_core.specs.declared.place.NodeId.{NodeId}
-use Rattle.graph_core.specs.GraphValue.{GraphValue, Denotes, IsGraph}
-use Rattle.graph_core.specs.Exchange.{CanExchange, IsAtNode, end_port, name_by, with_fresh}
+use Rattle.graph_core.specs.GraphValue.{GraphValue, Denotes, IsGraph, name_by}
+use Rattle.graph_core.specs.Exchange.{CanExchange, IsAtNode, end_port, with_fresh}
 
 one : {A : Type 0} (P : A → Type 0) (x : A) → P x → All P (x ∷ [])
 one P x p zero d below = p
@@ -111,4 +111,24 @@ can_loop g is a b apart first second node shape ok buffer free =
       fit = one (λ (w : End × End). CanWire (with_fresh g gone nodes) (end_port g nodes w.0) (end_port g nodes w.1)) wire (joined left node shape buffer away);
       outputs = alone (λ (v w : End × End). end_port g nodes v.0 ≢ end_port g nodes w.0) wire;
       inputs = alone (λ (v w : End × End). end_port g nodes v.1 ≢ end_port g nodes w.1) wire;
+    }
+
+nothing : {A : Type 0} (P : A → Type 0) → All P []
+nothing P k d below = absurd (omega arith)
+
+no_pairs : {A : Type 0} (P : A → A → Type 0) → AllPairs P []
+no_pairs P i j d less below = absurd (omega arith)
+
+pub can_nothing : (g : GraphValue) → CanExchange g [] [] []
+can_nothing g =
+    record {
+      live = nothing (λ (id : NodeId). (name : Name) × Denotes g id name);
+      distinct = no_pairs (λ (i j : NodeId). i ≢ j);
+      nodes = nothing NodeOk;
+      names = no_pairs (λ (x y : Node). x.name ≢ y.name);
+      free = nothing (λ (x : Node). finite.get g.graph.nodes x.name ≡ None);
+      ends = nothing (λ (w : End × End). IsAtNode g [] [] w.0 × IsAtNode g [] [] w.1);
+      fit = nothing (λ (w : End × End). CanWire g.graph (end_port g [] w.0) (end_port g [] w.1));
+      outputs = no_pairs (λ (v w : End × End). end_port g [] v.0 ≢ end_port g [] w.0);
+      inputs = no_pairs (λ (v w : End × End). end_port g [] v.1 ≢ end_port g [] w.1);
     }

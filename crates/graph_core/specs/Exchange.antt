@@ -9,11 +9,7 @@ use Rattle.components.specs.NamedGraph.{NamedGraph, CanWire, with_node, with_wir
 use Rattle.graph_core.specs.declared.exchange.End.{End}
 use Rattle.graph_core.specs.declared.exchange.End.TheVariants.{Old, Fresh}
 use Rattle.graph_core.specs.declared.place.NodeId.{NodeId}
-use Rattle.graph_core.specs.GraphValue.{GraphValue, Ids, Denotes, port_of}
-
--- the name that an id denotes, and the empty one where it denotes none
-abbrev pub name_by : Ids → NodeId → Name
-name_by ids id = unwrap_or (finite.get ids id) []
+use Rattle.graph_core.specs.GraphValue.{GraphValue, Denotes, name_by, port_of}
 
 -- without nodes, one after another
 abbrev pub without_nodes : NamedGraph → List Name → NamedGraph

@@ -28,9 +28,13 @@ pub record GraphValue : Type 0 where
 abbrev pub Denotes : GraphValue → NodeId → Name → Type 0
 Denotes g id name = finite.get g.ids id ≡ Some name
 
--- a port by the name of its node. For an id that is not live this is a port of no node, since no node has the empty name
+-- the name that an id denotes, and for an id that is not live the empty one, which no node has
+abbrev pub name_by : Ids → NodeId → Name
+name_by ids id = unwrap_or (finite.get ids id) []
+
+-- a port by the name of its node
 abbrev pub port_by : Ids → PortAt → Port
-port_by ids p = record { node = unwrap_or (finite.get ids p.node) []; port = p.port }
+port_by ids p = record { node = name_by ids p.node; port = p.port }
 
 abbrev pub port_of : GraphValue → PortAt → Port
 port_of g p = port_by g.ids p

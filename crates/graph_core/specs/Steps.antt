@@ -10,8 +10,7 @@ use Rattle.graph_core.specs.declared.exchange.End.TheVariants.{Old, Fresh}
 use Rattle.graph_core.specs.declared.place.NodeId.{NodeId}
 use Rattle.graph_core.specs.declared.place.PortAt.{PortAt}
 use Rattle.graph_core.specs.Place.{id_of}
-use Rattle.graph_core.specs.GraphValue.{GraphValue, Ids, Denotes, without_id}
-use Rattle.graph_core.specs.Exchange.{name_by}
+use Rattle.graph_core.specs.GraphValue.{GraphValue, Ids, Denotes, name_by, without_id}
 
 -- without the nodes of these ids, whose names are known
 abbrev pub without_ids : Ids → GraphValue → List NodeId → GraphValue

@@ -7,7 +7,7 @@ ghost use Rattle.graph_core.specs.declared.cells.Cell.{Cell};
 ghost use Rattle.graph_core.specs.Cells.{IsNext, bare, cell_with, ends, with_end, without_cell};
 ghost use Rattle.components.specs.Kind.{KindOk};
 ghost use Rattle.graph_core.specs.Ends.{end_of};
-ghost use Rattle.graph_core.specs.Place.{id_of, index_of};
+ghost use Rattle.graph_core.specs.Place.{index_of};
 ghost use Rattle.graph_core.specs.Slots.{cell_in, next_in, slot_with, with_end_in};
 
 use crate::ends::Ends;

@@ -1,5 +1,5 @@
 //! The ids of nodes by their names.
-ghost use Rattle.std.specs.Prelude.{◌≡◌, None, Some, bytes_eq, IsSome, IfOk, OnOk, OnErr};
+ghost use Rattle.std.specs.Prelude.{◌≡◌, Some, bytes_eq, IsSome, IfOk, OnOk, OnErr};
 ghost use Rattle.std.specs.FinMap as finite;
 ghost use Rattle.indexmap.specs.IndexMap.{get_by, UpdatesBy};
 

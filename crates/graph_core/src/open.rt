@@ -1,5 +1,5 @@
 //! Whether a graph is typed, and else its first open port.
-ghost use Rattle.std.specs.Prelude.{◌≡◌, ◌↔◌, IsOk, IfErr, MatchBool, MatchOption, MatchResult};
+ghost use Rattle.std.specs.Prelude.{◌↔◌, IsOk, IfErr, MatchBool, MatchOption, MatchResult};
 ghost use Rattle.components.specs.NamedGraph.{IsTyped};
 ghost use Rattle.graph_core.specs.GraphValue.{port_of};
 ghost use Rattle.graph_core.specs.Open.{AreWired, IsClosed, IsFirstFree, IsFirstOpen, IsFirstOpenAt};

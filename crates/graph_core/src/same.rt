@@ -1,8 +1,8 @@
 //! Whether two graphs are the same by names.
-ghost use Rattle.std.specs.Prelude.{◌≡◌, ◌≢◌, ◌↔◌, ◌≤◌, ℕ, [], IsTrue, MatchOption, Some, unwrap_or};
+ghost use Rattle.std.specs.Prelude.{◌≡◌, ◌≢◌, ◌↔◌, ◌≤◌, ℕ, IsTrue, MatchOption, Some};
 ghost use Rattle.std.specs.FinMap as finite;
 ghost use Rattle.components.specs.Node.{NodeOk, body_of};
-ghost use Rattle.graph_core.specs.GraphValue.{Denotes, port_of};
+ghost use Rattle.graph_core.specs.GraphValue.{Denotes, name_by, port_of};
 ghost use Rattle.graph_core.specs.Open.{port_at};
 ghost use Rattle.graph_core.specs.Within.{IdStandsIn, IsFedIn, IsWithin};
 
@@ -92,7 +92,7 @@ fn same_port(a: &Graph, p: PortAt, b: &Graph, q: PortAt) -> bool
 
 /// The name of the node of this id, and the empty one where none is live.
 fn name_of(g: &Graph, id: NodeId) -> &[u8]
-    ensures { result.now ≡ unwrap_or (finite.get g.now.ids id) [] }
+    ensures { result.now ≡ name_by g.now.ids id }
 {
     match g.node(id) {
         Some(node) => node.name.bytes(),

@@ -97,6 +97,14 @@ fn loop_for(g: &mut Graph, alloc: Global, a: NodeId, b: NodeId, name: &str) -> R
     Ok(())
 }
 
+/// Nothing in the place of nothing.
+fn exchange_nothing(g: &mut Graph, alloc: Global) -> Result<(), Fail> {
+    let gone: [NodeId; 0] = [];
+    let wires: [(End, End); 0] = [];
+    g.exchange(gone.as_slice(), Vec::new(alloc), wires.as_slice())?;
+    Ok(())
+}
+
 #[test]
 fn one_node_for_two(rt: HostRuntime) -> Result<(), Fail> {
     let alloc = rt.alloc();
@@ -106,6 +114,7 @@ fn one_node_for_two(rt: HostRuntime) -> Result<(), Fail> {
     let buffer = g.find(b"b".as_slice()).ok_or("no node")?;
     let entry = g.find(b"a2".as_slice()).ok_or("no node")?;
     loop_for(&mut g, alloc, entry, buffer, "c")?;
+    exchange_nothing(&mut g, alloc)?;
     let single = g.find(b"c".as_slice()).ok_or("no node")?;
     assert_eq!(rt; g.wire_from(first(single)), Some(first(single)));
     assert!(rt; g.wire_into(first(exit)).is_none());
