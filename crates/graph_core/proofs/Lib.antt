@@ -1,18 +1,18 @@
-pub mod NameLookups
-pub mod NameTable
-pub mod SlotLemmas
-pub mod Tables
-pub mod Views
-pub mod Standing
-pub mod EndChanges
-pub mod Put
-pub mod Link
+mod NameLookups
+mod NameTable
+mod SlotLemmas
+mod Tables
+mod Views
+mod Standing
+mod EndChanges
+mod Put
+mod Link
 mod Joined
-pub mod Cutting
-pub mod Take
-pub mod Graphs
-pub mod OpenPorts
-pub mod Counting
+mod Cutting
+mod Take
+mod Graphs
+mod OpenPorts
+mod Counting
 mod Exchanging
 mod Exchanged
 mod Looped
