@@ -1,6 +1,5 @@
 -- Ports that can be joined by names can be linked.
-use Rattle.std.proofs.Common.{◌≡◌, inl, inr, Option, Some, None, is_some, refl, sym, ap, ◌∙◌}
-use Rattle.std.specs.FinMap as finite
+use Rattle.std.proofs.Common.{◌≡◌, Option, Some, None, is_some, refl, sym, ap, ◌∙◌}
 use Rattle.std.proofs.lemmas.Option.{none-some}
 use Rattle.port_types.specs.declared.side.Side.{Side}
 use Rattle.port_types.specs.declared.side.Side.TheVariants.{Ins, Outs}

@@ -1,5 +1,5 @@
 -- What feeds an input of a graph is an output of a live node.
-use Rattle.std.proofs.Common.{sym, ap, ◌∙◌, refl, rules}
+use Rattle.std.proofs.Common.{sym, ◌∙◌, refl}
 use Rattle.std.proofs.lemmas.Option.{none-some}
 use Rattle.graph_core.specs.GraphValue.{port_of}
 use Rattle.graph_core.specs.Denoting.{denoted_by}

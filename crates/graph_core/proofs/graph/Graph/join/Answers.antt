@@ -1,7 +1,6 @@
 use Rattle.std.proofs.Common.{◌∙◌, sym, ap, subst}
 use Rattle.components.specs.NamedGraph.{CanWire}
 use Rattle.graph_core.specs.GraphValue.{port_of, with_link}
-use Rattle.graph_core.specs.Arena.{CanLink}
 use Rattle.graph_core.specs.Inside.{IsArena, value_of}
 use Rattle.graph_core.proofs.Link.{link_ok, link_value}
 use Rattle.graph_core.proofs.Joined.{can_join}

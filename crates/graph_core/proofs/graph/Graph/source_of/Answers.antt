@@ -1,7 +1,6 @@
-use Rattle.std.proofs.Common.{sym, ◌∙◌}
+use Rattle.std.proofs.Common.{◌∙◌}
 use Rattle.std.proofs.lemmas.Option.{none-some}
 use Rattle.graph_core.specs.GraphValue.{port_of}
-use Rattle.graph_core.specs.Wiring.{HasShape}
 use Rattle.graph_core.proofs.graph.Graph.source_of.Goals as goal
 
 pub unreachable-requires : goal.unreachable-requires
