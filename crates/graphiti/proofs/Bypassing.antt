@@ -1,23 +1,14 @@
 -- Taking a Buffer out and joining what fed it to what it fed, by names.
-use Rattle.std.proofs.Common.{◌≡◌, ◌≢◌, inr, Bool, true, false, cond, not, ◌||◌, refl, sym, ap, subst, ◌∙◌, Option, Some, None, IsSome, IfSome, is_some, IsSomeAnd, bytes_eq, true≢false}
+use Rattle.std.proofs.Common.{◌≡◌, ◌≢◌, Bool, true, false, cond, not, ◌||◌, refl, sym, ap, ◌∙◌, Option, Some, None, bytes_eq, true≢false}
 use Rattle.std.proofs.lemmas.Bool.{not-true, or_parts}
-use Rattle.std.proofs.lemmas.Option.{none-some}
-use Rattle.std.specs.Option.{option_map}
 use Rattle.std.specs.FinMap as map
-use Rattle.components.specs.declared.kind.Kind.TheVariants.{Buffer}
-use Rattle.components.specs.declared.node.Node.{Node}
-use Rattle.graph_core.specs.declared.place.NodeId.{NodeId}
-use Rattle.graph_core.specs.declared.place.PortAt.{PortAt}
-use Rattle.components.specs.Name.{Name, Port, port_get}
-use Rattle.components.specs.Kind.{Shape, ins}
-use Rattle.components.specs.Node.{body_of}
+use Rattle.components.specs.Name.{Name, Port}
 use Rattle.components.specs.NamedGraph.{NamedGraph, IsTyped, IsWire, CanWire, is_of, with_wire, without_node}
 use Rattle.circuits.specs.Buffers.{first_port}
-use Rattle.graphiti.specs.Stripped.{IsBufferKind, IsBuffer}
-use Rattle.graphiti.specs.Strips.{Drops, StaysAtTurn}
+use Rattle.graphiti.specs.Stripped.{IsBuffer}
 use Rattle.components.specs.Lookups.{get_inserted, get_retained, found_if}
 use Rattle.components.specs.Orders.{port_total, port_same, same_bytes}
-use Rattle.graphiti.proofs.Dropping.{Bypasses, drops, buffer_feeds, buffer_output, drops_bypasses, typed_after}
+use Rattle.graphiti.proofs.Dropping.{Bypasses, drops, drops_bypasses, typed_after}
 
 -- By names
 

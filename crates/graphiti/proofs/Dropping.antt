@@ -1,5 +1,5 @@
 -- A typed graph without one of its Buffers.
-use Rattle.std.proofs.Common.{◌≡◌, ◌≢◌, ◌⊎◌, ℕ, zero, suc, Bool, true, false, cond, not, ◌||◌, inl, inr, refl, sym, ap, subst, ◌∙◌, [], ◌∷◌, Option, Some, None, IsSomeAnd, bytes_eq, true≢false}
+use Rattle.std.proofs.Common.{◌≡◌, ◌≢◌, ◌⊎◌, Bool, true, false, cond, not, ◌||◌, inl, inr, refl, sym, ap, subst, ◌∙◌, Option, Some, None, IsSomeAnd, bytes_eq, true≢false}
 use Rattle.std.proofs.lemmas.Bool.{not-true, not_from_false, or_from, or_parts}
 use Rattle.std.proofs.lemmas.Option.{none-some, same_Some}
 use Rattle.std.specs.FinMap as map

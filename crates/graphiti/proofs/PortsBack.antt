@@ -1,26 +1,22 @@
 -- The printed ports of a side are read as the shapes of the ports.
-use Rattle.std.proofs.Common.{◌≡◌, ℕ, ◌+◌, Bool, true, false, cond, ◌||◌, ◌==◌, List, [], ◌∷◌, length, map, Option, None, Result, Ok, Err, refl, sym, ap, ◌∙◌, arith}
+use Rattle.std.proofs.Common.{◌≡◌, ℕ, ◌+◌, Bool, true, false, cond, ◌||◌, ◌==◌, List, [], ◌∷◌, length, map, Result, Ok, Err, refl, sym, ap, ◌∙◌, arith}
 use Rattle.std.specs.List.{AllByRecursion, list_any, join_with_byte}
 use Rattle.std.proofs.lemmas.Bool.{and_from}
 use Rattle.std.proofs.lemmas.List.Elements.{recursion_from_All, All-from_recursion}
 use Rattle.std.proofs.lemmas.List.Folds.{list_any-append}
-use Rattle.op_table.specs.declared.op.Op.{Op}
-use Rattle.op_table.specs.declared.op.Op.TheVariants.{Select}
 use Rattle.port_types.specs.Shape.{IsShape}
 use Rattle.port_types.specs.declared.port.Port.{Port}
 use Rattle.port_types.specs.declared.port.PortFault.{PortFault}
 use Rattle.port_types.specs.declared.port.PortFault.TheVariants.{MemoryPort}
 use Rattle.port_types.specs.declared.side.Side.{Side}
-use Rattle.port_types.specs.declared.side.Side.TheVariants.{Ins, Outs}
 use Rattle.port_types.specs.PortText.{marked_texts_from, marked_ports_text}
 use Rattle.port_types.specs.PortGrammar.{is_marker_or_none, are_marked, words_of, word_reading, then_ports, words_reading}
 use Rattle.port_types.specs.PortLaws.{ArePorts, ReadsPorts, ReadsBack}
 use Rattle.components.specs.declared.kind.Kind.{Kind}
-use Rattle.components.specs.declared.kind.Kind.TheVariants.{Operator, Mux, Branch, CtrlMerge}
 use Rattle.components.specs.Kind.{Shape, ports, KindOk}
 use Rattle.components.specs.Laws.{PortsAreShapes}
 use Rattle.graph_print.specs.Markers.{marker_ok}
-use Rattle.graph_print.specs.CanonicalText.{PrintedPort, condition, yes, no, operand_marker, marker, marked_from, marked_ports}
+use Rattle.graph_print.specs.CanonicalText.{PrintedPort, marker, marked_from, marked_ports}
 use Rattle.graph_read.specs.NodeReading.{has_star, shapes_in, text_reading}
 use Rattle.graphiti.proofs.PairsBack.{text_of_side}
 
