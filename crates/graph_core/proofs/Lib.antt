@@ -14,6 +14,7 @@ pub mod OpenPorts
 pub mod Counting
 mod Exchanging
 mod Exchanged
+mod Grown
 mod ByKey
 mod InOrder
 mod SameGraphs

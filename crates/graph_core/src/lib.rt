@@ -14,6 +14,7 @@ mod names;
 mod open;
 mod place;
 mod same;
+mod steps;
 #[cfg(test)]
 mod tests;
 
