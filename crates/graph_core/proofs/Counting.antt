@@ -43,7 +43,7 @@ module _ {K X : Type 0} {R : K → K → Ordering} (total : IsTotalOrder R) (sam
       by_len zero e = absurd (none-some x (sym (finite.get-empty R k) ∙ ap (λ z. get z k) (sym (finite.empty_of_len m e)) ∙ found))
       by_len (suc n) e = omega arith
 
-  len_removed : (m : FinMap R X) (k : K) (x : X) → get m k ≡ Some x → suc (len (remove m k)) ≡ len m
+  pub len_removed : (m : FinMap R X) (k : K) (x : X) → get m k ≡ Some x → suc (len (remove m k)) ≡ len m
   len_removed m k x found =
       let fewer : len (remove m k) ≡ len m - 1 = finite.len-remove total m k ∙ ap (λ o. cond (is_some o) (len m - 1) (len m)) found in
       let some = some_in m k x found in

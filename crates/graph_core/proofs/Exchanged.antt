@@ -59,7 +59,7 @@ module _ (names : Ids) where
   removed_graph h [] = refl
   removed_graph h (id ∷ gone) = removed_graph (without_id h id (name_by names id)) gone
 
-  removed_slots : (h : GraphValue) (gone : List NodeId) → (without_ids names h gone).slots ≡ h.slots
+  pub removed_slots : (h : GraphValue) (gone : List NodeId) → (without_ids names h gone).slots ≡ h.slots
   removed_slots h [] = refl
   removed_slots h (id ∷ gone) = removed_slots (without_id h id (name_by names id)) gone
 

@@ -7,7 +7,6 @@ mod Standing
 mod EndChanges
 mod Put
 mod Link
-mod Joined
 mod Cutting
 mod Take
 mod Graphs
@@ -16,5 +15,6 @@ mod Counting
 mod Exchanging
 mod Exchanged
 mod Looped
+mod Grown
 mod InOrder
 mod SameGraphs

@@ -102,6 +102,25 @@ module _ (c : CellsValue) (table : IdsByName) (ok : IsArena c table) where
           source_free = feeds c table ok s None can.from;
         }
 
+    -- a wire that can be added joins ports that can be linked
+    free_by : (side : Side) (p : PortAt) → ¬ (IsWired (value_of c table).graph side (port_by (ids_of c) p)) → end_at c side p ≡ None
+    free_by side p free = at (end_at c side p) refl
+      where
+        at : (o : Option PortAt) → end_at c side p ≡ o → end_at c side p ≡ None
+        at None e = e
+        at (Some q) e = absurd (free (wired_end side p (ap is_some e)))
+
+    pub can_link_by : CanWire (value_of c table).graph (port_by (ids_of c) s) (port_by (ids_of c) t) → CanLink c s t
+    can_link_by can =
+        let w = can.wire in
+        record {
+          shape = w.shape;
+          leaves = shape_back Outs s w.shape (w.from, w.is_from, w.leaves);
+          enters = shape_back Ins t w.shape (w.to, w.is_to, w.enters);
+          into = free_by Ins t (λ wired. none-some _ (sym can.target_free ∙ wired.1));
+          from = free_by Outs s (λ wired. can.source_free wired.0 wired.1);
+        }
+
 -- What linking finds
 
 pub there_is : {A : Type 0} (o : Option A) → IsSome o → (x : A) × (o ≡ Some x)

@@ -1,5 +1,5 @@
 -- The cells that slots show, and the chain of free slots, after each change.
-use Rattle.std.proofs.Common.{◌≡◌, ◌≢◌, ℕ, zero, suc, ◌+◌, ◌-◌, ◌<◌, ◌≤◌, inl, inr, List, [], ◌∷◌, ◌++◌, length, cond, Option, Some, None, is_some, slice_get, slice_set, max, refl, sym, ap, subst, ◌∙◌, arith, length-set, length-append}
+use Rattle.std.proofs.Common.{◌≡◌, ◌≢◌, ℕ, zero, suc, ◌+◌, ◌-◌, ◌<◌, min, ◌≤◌, inl, inr, List, [], ◌∷◌, ◌++◌, length, cond, Option, Some, None, is_some, slice_get, slice_set, max, refl, sym, ap, subst, ◌∙◌, arith, length-set, length-append}
 use Rattle.std.specs.FinMap as map
 use Rattle.std.proofs.lemmas.Option.{same_Some, none-some}
 use Rattle.port_types.specs.declared.side.Side.{Side}
@@ -271,3 +271,73 @@ rewritten slots side p end from old (Some (Live cell)) found =
       record { free = old.free; total = omega arith; chain = chain_kept slots (slice_set slots i (Live now)) i others old.free from (λ m below. live_is_off slots i cell found m) old.chain },
       λ k. record { cells = cells k; slots = long k },
     )
+
+-- A new free slot, the first of the chain
+
+pub record Opened (old new : List Slot) (from : Option ℕ) : Type 0 where
+  pub chained : IsChained new from
+  pub cells : (shown new).cells ≡ (shown old).cells
+  pub count : length new ≡ length old + 1
+
+pub opened : (slots : List Slot) (from : Option ℕ) → IsChained slots from → Opened slots (slots ++ Free from ∷ []) (Some (length slots))
+opened slots from old =
+    let new = slots ++ Free from ∷ [] in
+    let i = length slots in
+    let others : (j : ℕ) → j ≢ i → slice_get new j ≡ slice_get slots j = λ j apart. push_other slots j (Free from) apart in
+    let here : slice_get new i ≡ Some (Free from) = push_here slots (Free from) in
+    let none : map.get (shown slots).cells (id_of i) ≡ None = get_shown slots (id_of i) ∙ ap cell_in (past_end slots) in
+    let cells : (shown new).cells ≡ (shown slots).cells = shown_without slots new i others from here ∙ ap (λ (c : CellsValue). c.cells) (no_cell (shown slots) (id_of i) none) in
+    let off : (m : ℕ) → m < old.free → IsChain slots (suc m) (Some i) → ⊥ =
+    λ m below p. none-some _ (sym (past_end slots) ∙ ap (slice_get slots) (same_Some _ _ p.2) ∙ p.3) in
+    let same : map.len (shown new).cells ≡ map.len (shown slots).cells = ap map.len cells in
+    let longer : length new ≡ length slots + 1 = length-append slots (Free from ∷ []) in
+    let total : map.len (shown slots).cells + old.free ≡ length slots = old.total in
+    record {
+      chained = record { free = suc old.free; total = omega arith; chain = (i, from, refl, here, chain_kept slots new i others old.free from off old.chain) };
+      cells = cells;
+      count = longer;
+    }
+
+-- so many new slots are free, and there is room for the others
+pub record SoGrown (old new : List Slot) (from : Option ℕ) (done : ℕ) : Type 0 where
+  pub chained : IsChained new from
+  pub cells : (shown new).cells ≡ (shown old).cells
+  pub count : length new ≡ length old + done
+
+pub so_grown : (old new now : List Slot) (from : Option ℕ) (done : ℕ) → SoGrown old new from done → now ≡ new ++ Free from ∷ [] → SoGrown old now (Some (length new)) (done + 1)
+so_grown old new now from done so_far is =
+    let step = opened new from so_far.chained in
+    let count : length new ≡ length old + done = so_far.count in
+    let more : length (new ++ Free from ∷ []) ≡ length new + 1 = step.count in
+    subst (λ z. SoGrown old z (Some (length new)) (done + 1)) (sym is) (record { chained = step.chained; cells = step.cells ∙ so_far.cells; count = omega arith })
+
+-- Along the chain
+
+-- so many steps along the chain, and here the rest of it starts
+abbrev pub Walked : List Slot → Option ℕ → ℕ → Option ℕ → Type 0
+Walked slots free done at = (n : ℕ) → IsChain slots n free → (m : ℕ) × (done + m ≡ n) × IsChain slots m at
+
+pub walked_on : (slots : List Slot) (free at next : Option ℕ) (done index : ℕ) → Walked slots free done at → at ≡ Some index → next ≡ next_in (slice_get slots index) → Walked slots free (done + 1) next
+walked_on slots free at next done index walked is on n p = step (walked n p).0 (walked n p).1 (walked n p).2
+  where
+    step : (m : ℕ) → done + m ≡ n → IsChain slots m at → (k : ℕ) × (done + 1 + k ≡ n) × IsChain slots k next
+    step zero e q = absurd (none-some _ (sym q ∙ is))
+    step (suc m) e q =
+        let here : slice_get slots index ≡ Some (Free q.1) = ap (slice_get slots) (same_Some _ _ (sym is ∙ q.2)) ∙ q.3 in
+        (m, omega arith, subst (IsChain slots m) (sym (on ∙ ap next_in here)) q.4)
+
+pub walked_out : (slots : List Slot) (free at : Option ℕ) (done most : ℕ) → Walked slots free done at → at ≡ None → done < most → (n : ℕ) → IsChain slots n free → done ≡ min most n
+walked_out slots free at done most walked is below n p =
+    let (m, e, q) = walked n p in
+    let none : m ≡ 0 = no_chain slots m (subst (IsChain slots m) is q) in
+    omega arith
+
+pub walked_all : (slots : List Slot) (free at : Option ℕ) (most : ℕ) → Walked slots free most at → (n : ℕ) → IsChain slots n free → most ≡ min most n
+walked_all slots free at most walked n p = let (m, e, q) = walked n p in omega arith
+
+-- where all slots are taken, none is free
+pub none_left : (slots : List Slot) (from : Option ℕ) → IsChained slots from → from ≡ None → map.len (shown slots).cells < length slots → ⊥
+none_left slots from old none below =
+    let empty : old.free ≡ 0 = no_chain slots old.free (subst (IsChain slots old.free) none old.chain) in
+    let total : map.len (shown slots).cells + old.free ≡ length slots = old.total in
+    absurd (omega arith)

@@ -14,3 +14,4 @@ pub mod Open
 pub mod Within
 pub mod Exchange
 pub mod Steps
+pub mod Made

@@ -1,5 +1,5 @@
 //! Changes of cells together with the names of their nodes.
-ghost use Rattle.std.specs.Prelude.{◌≡◌, None, IfOk, OnErr, MatchOption, MatchResult};
+ghost use Rattle.std.specs.Prelude.{◌≡◌, ◌≤◌, None, IfOk, OnErr, MatchOption, MatchResult};
 ghost use Rattle.std.specs.FinMap as finite;
 ghost use Rattle.components.specs.Kind.{KindOk};
 ghost use Rattle.graph_core.specs.Arena.{CanLink, IsPut, KindsOk, ListsAt, Owns, RefusesLink, cut_ends, listed_at, linked, unlisted, without_wired};
@@ -16,10 +16,10 @@ use port_types::{NoMemory, Side};
 /// Puts a node into a new cell, and its name into the table. The only error is want of memory, and leaves both as they were.
 pub(crate) fn put(cells: &mut Cells, names: &mut Names, node: Node) -> Result<NodeId, NoMemory>
     requires kind { KindOk node.kind }
-    requires fresh { finite.get names.old node.name ≡ None }
-    ensures ok { IfOk result (λ id. IsPut cells.old names.old id node cells.new names.new) }
+    requires fresh { finite.get names.old.ids node.name ≡ None }
+    ensures ok { IfOk result (λ id. IsPut cells.old names.old.ids id node cells.new names.new.ids) }
     ensures cells { OnErr result (cells.new ≡ cells.old) }
-    ensures names { OnErr result (names.new ≡ names.old) }
+    ensures names { OnErr result (names.new.ids ≡ names.old.ids) }
 {
     let cell = Cell::new(names.allocator(), node)?;
 
@@ -39,8 +39,8 @@ pub(crate) fn put(cells: &mut Cells, names: &mut Names, node: Node) -> Result<No
 
 /// Puts the id under the name of its node, which the table has.
 fn list(cells: &Cells, names: &mut Names, id: NodeId)
-    requires { ListsAt names.old (finite.get cells.now.cells id) }
-    ensures { names.new ≡ listed_at names.old id (finite.get cells.now.cells id) }
+    requires { ListsAt names.old.ids (finite.get cells.now.cells id) }
+    ensures { names.new.ids ≡ listed_at names.old.ids id (finite.get cells.now.cells id) }
 {
     if let Some(cell) = cells.get(id) {
         names.set(cell.node.name.bytes(), id);
@@ -96,7 +96,8 @@ fn owner(cells: &Cells, side: Side, port: PortAt) -> Option<&Node>
 pub(crate) fn take(cells: &mut Cells, names: &mut Names, id: NodeId) -> Option<Node>
     ensures node { result ≡ node_at cells.old id }
     ensures cells { cells.new ≡ without_wired cells.old id (finite.get cells.old.cells id) }
-    ensures names { names.new ≡ unlisted names.old (finite.get cells.old.cells id) }
+    ensures names { names.new.ids ≡ unlisted names.old.ids (finite.get cells.old.cells id) }
+    ensures room { names.old.room ≤ names.new.room }
 {
     let Cell { node, ins, outs } = cells.remove(id)?;
     names.remove(node.name.bytes());

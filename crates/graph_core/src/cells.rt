@@ -1,5 +1,5 @@
 //! Nodes by id, in slots.
-ghost use Rattle.std.specs.Prelude.{◌≡◌, None, Some, IfOk, IfErr, OnOk, OnErr, ◌<◌, ◌≤◌, ◌++◌, ◌∷◌, [], max, slice_get, slice_set};
+ghost use Rattle.std.specs.Prelude.{◌≡◌, ℕ, None, Some, IsOk, IfOk, IfErr, OnOk, OnErr, ◌<◌, ◌≤◌, ◌+◌, ◌++◌, ◌∷◌, [], length, max, min, vec_len, vec_capacity, slice_get, slice_set};
 ghost use Rattle.std.specs.Option.{option_copied};
 ghost use Rattle.std.specs.FinMap as map_of;
 ghost use Rattle.graph_core.specs.declared.place.NodeId.{NodeId};
@@ -7,8 +7,8 @@ ghost use Rattle.graph_core.specs.declared.cells.Cell.{Cell};
 ghost use Rattle.graph_core.specs.Cells.{IsNext, bare, cell_with, ends, with_end, without_cell};
 ghost use Rattle.components.specs.Kind.{KindOk};
 ghost use Rattle.graph_core.specs.Ends.{end_of};
-ghost use Rattle.graph_core.specs.Place.{index_of};
-ghost use Rattle.graph_core.specs.Slots.{cell_in, next_in, slot_with, with_end_in};
+ghost use Rattle.graph_core.specs.Place.{id_of, index_of};
+ghost use Rattle.graph_core.specs.Slots.{IsChain, IsChained, cell_in, next_in, shown, slot_with, with_end_in};
 
 use crate::ends::Ends;
 use crate::place::{NodeId, PortAt};
@@ -169,6 +169,7 @@ impl Cells {
         ensures cells { IfOk result (λ id. self.new.cells ≡ map_of.insert self.old.cells id cell) }
         ensures slots { OnOk result (self.new.slots ≡ max self.old.slots (map_of.len self.new.cells)) }
         ensures err { OnErr result (self.new ≡ self.old) }
+        ensures sure { map_of.len self.old.cells < self.old.slots → IsOk result }
     {
         match self.free {
             None => {
@@ -182,6 +183,18 @@ impl Cells {
                 Ok(NodeId::new(index))
             }
         }
+    }
+
+    /// Makes new slots until so many are free. The only error is want of memory, and leaves all as it was.
+    pub(crate) fn make_free(&mut self, count: usize) -> Result<(), NoMemory>
+        ensures cells { OnOk result (self.new.cells ≡ self.old.cells) }
+        ensures slots { OnOk result (self.new.slots ≡ max self.old.slots (map_of.len self.old.cells + count)) }
+        ensures err { OnErr result (self.new ≡ self.old) }
+    {
+        let more = count - free_within(&self.slots, self.free, count);
+        self.slots.reserve(more)?;
+        self.free = grow(&mut self.slots, self.free, more);
+        Ok(())
     }
 
     /// Takes out the cell of this id; its slot is then the first free one. Takes no memory.
@@ -231,6 +244,39 @@ fn cell_of(slot: Option<Slot>) -> Option<Cell>
         Some(Slot::Live(cell)) => Some(cell),
         _ => None,
     }
+}
+
+/// How many free slots there are on the chain, where they are no more than `most`.
+fn free_within(slots: &[Slot], free: Option<usize>, most: usize) -> usize
+    ensures { (n : ℕ) → IsChain slots.now n free → result ≡ min most n }
+{
+    let mut at = free;
+    for count in 0..most {
+        let Some(index) = at else {
+            return count;
+        };
+        at = next_at(slots, index);
+    }
+    most
+}
+
+/// Puts so many new slots before the free ones, for which there is room. Takes no memory.
+fn grow(slots: &mut Vec<Slot>, free: Option<usize>, more: usize) -> Option<usize>
+    requires chained { IsChained slots.old.items free }
+    requires room { vec_len slots.old + more ≤ vec_capacity slots.old }
+    ensures chained { IsChained slots.new.items result }
+    ensures cells { (shown slots.new.items).cells ≡ (shown slots.old.items).cells }
+    ensures count { length slots.new.items ≡ length slots.old.items + more }
+{
+    let mut first = free;
+    for done in 0..more {
+        let index = slots.len();
+        let Ok(()) = slots.push(Slot::Free(first)) else {
+            unreachable!()
+        };
+        first = Some(index);
+    }
+    first
 }
 
 /// Puts a cell into a new slot.

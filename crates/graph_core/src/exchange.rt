@@ -1,11 +1,18 @@
-//! Some nodes of a graph in the places of others.
-ghost use Rattle.std.specs.Prelude.{◌≡◌, length, IfOk, OnOk, All};
-ghost use Rattle.graph_core.specs.GraphValue.{port_of};
-ghost use Rattle.graph_core.specs.Exchange.{CanExchange, IsExchanged, with_nodes};
-ghost use Rattle.graph_core.specs.Steps.{AreAdded, AreDenoted, CanAdd, Fits, IsEndWithin, place_of, with_pairs, without_ids};
+//! Some nodes of a graph in the places of others. All memory is taken before the first change.
+ghost use Rattle.std.specs.Prelude.{◌≡◌, ◌+◌, ◌-◌, ◌<◌, ◌≤◌, ◌++◌, ◌∷◌, [], length, map, IfOk, OnOk, OnErr, All, vec_len, vec_capacity};
+ghost use Rattle.std.specs.FinMap as finite;
+ghost use Rattle.components.specs.Kind.{KindOk};
+ghost use Rattle.graph_core.specs.Exchange.{CanExchange, IsExchanged};
+ghost use Rattle.graph_core.specs.Inside.{IsArena, value_of};
+ghost use Rattle.graph_core.specs.Made.{IsMade, node_of};
+ghost use Rattle.graph_core.specs.Names.{IdsByName};
+ghost use Rattle.graph_core.specs.Steps.{ArePut, AreJoined, AreDenoted, CanAdd, IsEndWithin, place_of, without_ids};
 
-use crate::graph::Graph;
+use crate::arena::link;
+use crate::cells::Cells;
+use crate::names::Names;
 use crate::place::{NodeId, PortAt};
+use crate::steps::{Made, enter, leave, make};
 use components::Node;
 use port_types::NoMemory;
 use std::alloc::Global;
@@ -19,70 +26,95 @@ pub enum End {
     Fresh(usize, u8),
 }
 
-/// The graph with some nodes in the places of others. The only error is want of memory.
-pub(crate) fn exchanged(
-    g: &Graph,
-    alloc: Global,
+/// Puts some nodes into the places of others. The only error is want of memory, and leaves the graph as it was.
+pub(crate) fn exchange(
+    cells: &mut Cells,
+    names: &mut Names,
     gone: &[NodeId],
     fresh: Vec<Node>,
     wires: &[(End, End)],
-) -> Result<Graph, NoMemory>
-    requires { CanExchange g.now gone.now fresh.items wires.now }
-    ensures { IfOk result (IsExchanged g.now gone.now fresh.items wires.now) }
+) -> Result<(), NoMemory>
+    requires arena { IsArena cells.old names.old.ids }
+    requires can { CanExchange (value_of cells.old names.old.ids) gone.now fresh.items wires.now }
+    ensures arena { IsArena cells.new names.new.ids }
+    ensures ok { OnOk result (IsExchanged (value_of cells.old names.old.ids) gone.now fresh.items wires.now (value_of cells.new names.new.ids)) }
+    ensures err { OnErr result (value_of cells.new names.new.ids ≡ value_of cells.old names.old.ids) }
 {
-    g.is_graph();
-    let mut next = g.copy(alloc)?;
-    remove_all(&mut next, gone);
-    let ids = add_all(&mut next, alloc, fresh)?;
-    wire_all(&mut next, &ids, wires)?;
-    next.is_graph();
-    Ok(next)
+    cells.within();
+    let alloc = names.allocator();
+    let made = make_all(alloc, fresh)?;
+    let mut ids = Vec::with_capacity(alloc, made.len())?;
+    names.reserve(made.len())?;
+    cells.make_free(made.len().saturating_sub(gone.len()))?;
+    take_all(cells, names, gone);
+    put_all(cells, names, made, &mut ids);
+    link_all(cells, &ids, wires);
+    cells.within();
+    Ok(())
+}
+
+/// The nodes in their cells. The only error is want of memory.
+fn make_all(alloc: Global, nodes: Vec<Node>) -> Result<Vec<Made>, NoMemory>
+    requires { All (λ node. KindOk node.kind) nodes.items }
+    ensures made { IfOk result (λ made. All IsMade made.items) }
+    ensures nodes { IfOk result (λ made. map node_of made.items ≡ nodes.items) }
+{
+    let mut all = Vec::new(alloc);
+    for node in nodes {
+        all.push(make(alloc, node)?)?;
+    }
+    Ok(all)
 }
 
 /// Takes nodes out. Takes no memory.
-fn remove_all(g: &mut Graph, gone: &[NodeId])
-    requires { AreDenoted g.old.ids g.old gone.now }
-    ensures { g.new ≡ without_ids g.old.ids g.old gone.now }
+fn take_all(cells: &mut Cells, names: &mut Names, gone: &[NodeId])
+    requires arena { IsArena cells.old names.old.ids }
+    requires denoted { AreDenoted (value_of cells.old names.old.ids).ids (value_of cells.old names.old.ids) gone.now }
+    ensures arena { IsArena cells.new names.new.ids }
+    ensures gone { value_of cells.new names.new.ids ≡ without_ids (value_of cells.old names.old.ids).ids (value_of cells.old names.old.ids) gone.now }
+    ensures room { names.old.room ≤ names.new.room }
 {
     for id in gone {
-        let _ = g.remove_node(*id);
+        leave(cells, names, *id);
     }
 }
 
-/// Adds nodes, and answers their ids in order. The only error is want of memory.
-fn add_all(g: &mut Graph, alloc: Global, nodes: Vec<Node>) -> Result<Vec<NodeId>, NoMemory>
-    requires { CanAdd g.old.graph nodes.items }
-    ensures graph { OnOk result (g.new.graph ≡ with_nodes g.old.graph nodes.items) }
-    ensures ids { IfOk result (λ ids. AreAdded g.old nodes.items ids.items g.new) }
-    ensures count { IfOk result (λ ids. length ids.items ≡ length nodes.items) }
+/// Puts new nodes into free slots and into the table, which have room for them, and their ids in order into a list that has too.
+fn put_all(cells: &mut Cells, names: &mut Names, made: Vec<Made>, ids: &mut Vec<NodeId>)
+    requires arena { IsArena cells.old names.old.ids }
+    requires made { All IsMade made.items }
+    requires can { CanAdd (value_of cells.old names.old.ids).graph (map node_of made.items) }
+    requires room { length made.items ≤ names.old.room }
+    requires slots { finite.len cells.old.cells + length made.items ≤ cells.old.slots }
+    requires none { ids.old.items ≡ [] }
+    requires list { vec_len ids.old + length made.items ≤ vec_capacity ids.old }
+    ensures arena { IsArena cells.new names.new.ids }
+    ensures put { ArePut (value_of cells.old names.old.ids) (map node_of made.items) ids.new.items (value_of cells.new names.new.ids) }
 {
-    g.is_graph();
-    let mut ids = Vec::new(alloc);
-    for node in nodes {
-        let Ok(id) = g.add_node(node) else {
-            return Err(NoMemory);
-        };
-        ids.push(id)?;
+    for one in made {
+        let id = enter(cells, names, one);
+        push(ids, id);
     }
-    Ok(ids)
 }
 
-/// Adds wires, where the new nodes have these ids. The only error is want of memory, which this call does not need.
-fn wire_all(g: &mut Graph, ids: &[NodeId], wires: &[(End, End)]) -> Result<(), NoMemory>
-    requires within { All (λ w. IsEndWithin (length ids.now) w.0 × IsEndWithin (length ids.now) w.1) wires.now }
-    requires fit { Fits (λ end. port_of g.old (place_of ids.now end)) g.old.graph wires.now }
-    ensures graph { OnOk result (g.new.graph ≡ with_pairs (λ end. port_of g.old (place_of ids.now end)) g.old.graph wires.now) }
-    ensures ids { OnOk result (g.new.ids ≡ g.old.ids) }
-    ensures slots { OnOk result (g.new.slots ≡ g.old.slots) }
+/// Puts an id behind a list that has room for it.
+fn push(ids: &mut Vec<NodeId>, id: NodeId)
+    requires { vec_len ids.old < vec_capacity ids.old }
+    ensures items { ids.new.items ≡ ids.old.items ++ id ∷ [] }
+    ensures len { vec_len ids.new ≡ vec_len ids.old + 1 }
+    ensures room { vec_capacity ids.old ≤ vec_capacity ids.new }
+{
+    let Ok(()) = ids.push(id) else { unreachable!() };
+}
+
+/// Joins the ends of new wires, where the new nodes have these ids. Takes no memory.
+fn link_all(cells: &mut Cells, ids: &[NodeId], wires: &[(End, End)])
+    requires { All (λ w. IsEndWithin (length ids.now) w.0 × IsEndWithin (length ids.now) w.1) wires.now }
+    ensures { (table : IdsByName) → AreJoined cells.old table ids.now wires.now cells.new }
 {
     for wire in wires {
-        if g.add_wire(place(ids, &wire.0), place(ids, &wire.1))
-            .is_err()
-        {
-            return Err(NoMemory);
-        }
+        link(cells, place(ids, &wire.0), place(ids, &wire.1));
     }
-    Ok(())
 }
 
 /// The port at an end, where the new nodes have these ids.

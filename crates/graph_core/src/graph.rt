@@ -12,7 +12,7 @@ ghost use Rattle.graph_core.specs.Wiring.{Refuses};
 use crate::arena::{end, link, put, take, try_link};
 use crate::by_name::ids_by_name;
 use crate::cells::Cells;
-use crate::exchange::{End, exchanged};
+use crate::exchange::{End, exchange};
 use crate::names::Names;
 use crate::place::{NodeId, PortAt};
 use components::Node;
@@ -65,9 +65,9 @@ impl Model for Graph {
 
     ghost coded = { graph_code };
 
-    ghost view = { λ g. value_of g.cells g.names };
+    ghost view = { λ g. value_of g.cells g.names.ids };
 
-    ghost invariant = { λ g. IsArena g.cells g.names };
+    ghost invariant = { λ g. IsArena g.cells g.names.ids };
 }
 
 impl Graph {
@@ -132,7 +132,7 @@ impl Graph {
     }
 
     /// Takes the nodes of `gone` out, adds those of `fresh`, and then joins each pair of `wires`, an output and the input that it feeds. A new node may have
-    /// the name of one that goes. The only error is want of memory, and leaves the graph as it was: the steps are made on a copy.
+    /// the name of one that goes. The only error is want of memory, and leaves the graph as it was: all memory is taken before the first change.
     pub fn exchange(
         &mut self,
         gone: &[NodeId],
@@ -143,8 +143,7 @@ impl Graph {
         ensures ok { OnOk result (IsExchanged self.old gone.now fresh.items wires.now self.new) }
         ensures err { OnErr result (self.new ≡ self.old) }
     {
-        *self = exchanged(self, self.names.allocator(), gone, fresh, wires)?;
-        Ok(())
+        exchange(&mut self.cells, &mut self.names, gone, fresh, wires)
     }
 
     /// The live node of this id. `None` exactly where there is none.

@@ -29,6 +29,7 @@ mod names;
 mod open;
 mod place;
 mod same;
+mod steps;
 #[cfg(test)]
 mod tests;
 mod typed;

@@ -14,16 +14,16 @@ use Rattle.graph_core.proofs.graph.Graph.add_node.Goals.{Else-is_some, In-Ok}
 known : (c : Else-is_some) → is_some (finite.get c.args.self.now.graph.nodes c.args.node.name) ≡ false
 known c =
     ap (λ v. is_some (finite.get v.graph.nodes c.args.node.name)) (sym c.self.view_is)
-    ∙ name_known c.self.inside.cells c.self.inside.names c.self.invariant c.args.node.name _ refl
-    ∙ (let none : is_some (finite.get c.self.inside.names c.args.node.name) ≡ false = search rules in none)
+    ∙ name_known c.self.inside.cells c.self.inside.names.ids c.self.invariant c.args.node.name _ refl
+    ∙ (let none : is_some (finite.get c.self.inside.names.ids c.args.node.name) ≡ false = search rules in none)
 
-fresh : (c : Else-is_some) → finite.get c.self.inside.names c.args.node.name ≡ None
-fresh c = let none : is_some (finite.get c.self.inside.names c.args.node.name) ≡ false = search rules in none_by _ none
+fresh : (c : Else-is_some) → finite.get c.self.inside.names.ids c.args.node.name ≡ None
+fresh c = let none : is_some (finite.get c.self.inside.names.ids c.args.node.name) ≡ false = search rules in none_by _ none
 
 pub returns-then-is_some-clause-taken : goal.returns-then-is_some-clause-taken
 returns-then-is_some-clause-taken c =
-    let some : is_some (finite.get c.self.inside.names c.args.node.name) ≡ true = search rules in
-    (λ _. ap (λ v. is_some (finite.get v.graph.nodes c.args.node.name)) (sym c.self.view_is) ∙ name_known c.self.inside.cells c.self.inside.names c.self.invariant c.args.node.name _ refl ∙ some, λ _. refl)
+    let some : is_some (finite.get c.self.inside.names.ids c.args.node.name) ≡ true = search rules in
+    (λ _. ap (λ v. is_some (finite.get v.graph.nodes c.args.node.name)) (sym c.self.view_is) ∙ name_known c.self.inside.cells c.self.inside.names.ids c.self.invariant c.args.node.name _ refl ∙ some, λ _. refl)
 
 pub returns-in_default-clause-taken : goal.returns-in_default-clause-taken
 returns-in_default-clause-taken c = (λ e. absurd (cc), λ some. absurd (true≢false (sym some ∙ known (goal.at.returns-in_default-clause-taken c).Else-is_some)))
@@ -31,15 +31,15 @@ returns-in_default-clause-taken c = (λ e. absurd (cc), λ some. absurd (true≢
 pub returns-clause-taken : goal.returns-clause-taken
 returns-clause-taken c = (λ e. absurd (cc), λ some. absurd (true≢false (sym some ∙ known (goal.at.returns-clause-taken c).Else-is_some)))
 
-is_put : (c : In-Ok) → IsPut c.self.inside.cells c.self.inside.names c.in-Ok.id c.args.node c.put.new.cells c.put.new.names
+is_put : (c : In-Ok) → IsPut c.self.inside.cells c.self.inside.names.ids c.in-Ok.id c.args.node c.put.new.cells c.put.new.names.ids
 is_put c = c.in-Ok.ensures.ok
 
 pub invariant_of-self-2 : goal.invariant_of-self-2
-invariant_of-self-2 c = put_ok c.self.inside.cells c.self.inside.names c.self.invariant c.in-Ok.id c.args.node c.requires (fresh (goal.at.invariant_of-self-2 c).Else-is_some) c.put.new.cells c.put.new.names (is_put c)
+invariant_of-self-2 c = put_ok c.self.inside.cells c.self.inside.names.ids c.self.invariant c.in-Ok.id c.args.node c.requires (fresh (goal.at.invariant_of-self-2 c).Else-is_some) c.put.new.cells c.put.new.names.ids (is_put c)
 
 pub returns-clause-ok : goal.returns-clause-ok
 returns-clause-ok c =
-    put_value c.self.inside.cells c.self.inside.names c.self.invariant c.in-Ok.id c.args.node c.requires (fresh (goal.at.returns-clause-ok c).Else-is_some) c.put.new.cells c.put.new.names (is_put c)
+    put_value c.self.inside.cells c.self.inside.names.ids c.self.invariant c.in-Ok.id c.args.node c.requires (fresh (goal.at.returns-clause-ok c).Else-is_some) c.put.new.cells c.put.new.names.ids (is_put c)
     ∙ ap (λ v. with_id v c.in-Ok.id c.args.node) c.self.view_is
 
 pub returns-clause-fresh : goal.returns-clause-fresh

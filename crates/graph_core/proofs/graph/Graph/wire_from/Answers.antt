@@ -8,4 +8,4 @@ use Rattle.graph_core.proofs.graph.Graph.wire_from.Goals as goal
 pub returns : goal.returns
 returns c =
     subst (λ v. MatchOption c.end.result ((target : Port) → finite.get v.graph.feeders target ≢ Some (port_of v c.args.source)) (λ target. finite.get v.graph.feeders (port_of v target) ≡ Some (port_of v c.args.source))) c.self.view_is
-    (feeds c.self.inside.cells c.self.inside.names c.self.invariant c.args.source c.end.result (sym c.end.ensures))
+    (feeds c.self.inside.cells c.self.inside.names.ids c.self.invariant c.args.source c.end.result (sym c.end.ensures))

@@ -9,4 +9,4 @@ use Rattle.graph_core.proofs.graph.Graph.wire_into.Goals as goal
 pub returns : goal.returns
 returns c =
     subst (λ v. option_map (port_of v) c.end.result ≡ finite.get v.graph.feeders (port_of v c.args.target)) c.self.view_is
-    (ap (option_map (port_of (value_of c.self.inside.cells c.self.inside.names))) c.end.ensures ∙ fed c.self.inside.cells c.self.inside.names c.self.invariant c.args.target)
+    (ap (option_map (port_of (value_of c.self.inside.cells c.self.inside.names.ids))) c.end.ensures ∙ fed c.self.inside.cells c.self.inside.names.ids c.self.invariant c.args.target)

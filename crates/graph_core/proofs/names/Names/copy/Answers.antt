@@ -1,4 +1,4 @@
-use Rattle.std.proofs.Common.{◌∙◌, sym}
+use Rattle.std.proofs.Common.{◌∙◌, sym, ap}
 use Rattle.std.specs.FinMap as finite
 use Rattle.std.specs.List.{each_same}
 use Rattle.graph_core.proofs.NameLookups.{lookup_same}
@@ -12,4 +12,4 @@ returns c =
     get_in_table (λ key. key.items) name c.in_ok-ids.ids.entries
     ∙ lookup_same (λ key. key.items) (λ k l equal. each_same k.items l.items equal.0) (λ x y equal. equal) name _ _ c.in_ok-ids.ensures.cases
     ∙ sym (get_in_table (λ key. key.items) name c.self.inside.ids.entries))
-    ∙ c.self.view_is
+    ∙ ap (λ m. m.ids) c.self.view_is

@@ -8,4 +8,4 @@ use Rattle.graph_core.proofs.names.Names.get.Goals as goal
 pub returns : goal.returns
 returns c =
     let found : c.copied.result ≡ lookup (has (λ key. key.items) c.args.name.now) c.self.inside.ids.entries = search rules in
-    found ∙ sym (get_in_table (λ key. key.items) c.args.name.now c.self.inside.ids.entries) ∙ ap (λ m. finite.get m c.args.name.now) c.self.view_is
+    found ∙ sym (get_in_table (λ key. key.items) c.args.name.now c.self.inside.ids.entries) ∙ ap (λ m. finite.get m.ids c.args.name.now) c.self.view_is
