@@ -8,7 +8,6 @@ use Rattle.std.specs.List.{All}
 use Rattle.components.specs.declared.node.Node.{Node}
 use Rattle.components.specs.Lookups.{get_inserted, get_not_inserted}
 use Rattle.components.specs.Name.{Name, Port}
-use Rattle.components.specs.Node.{NodeOk}
 use Rattle.graph_core.specs.declared.exchange.End.{End}
 use Rattle.components.specs.NamedGraph.{NamedGraph, CanWire, with_wire}
 use Rattle.graph_core.specs.declared.place.NodeId.{NodeId}
@@ -68,12 +67,6 @@ so_added-none g nodes can room =
     }
 
 module _ (g : GraphValue) (nodes : List Node) (ids : List NodeId) (h : GraphValue) (node : Node) (rest : List Node) (count : ℕ) (so_far : SoAdded g nodes ids h (node ∷ rest) count) (at : slice_get nodes count ≡ Some node) where
-  pub node_ok : NodeOk node
-  node_ok = so_far.can.0
-
-  pub name_free : finite.get h.graph.nodes node.name ≡ None
-  name_free = so_far.can.1
-
   module _ (id : NodeId) (fresh : finite.get h.ids id ≡ None) where
     after : GraphValue
     after = with_id h id node
