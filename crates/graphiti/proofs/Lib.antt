@@ -1,13 +1,4 @@
-pub mod Dropping
-pub mod Meeting
-pub mod Turning
-pub mod TurnsMade
-pub mod Stripping
-pub mod Refining
-pub mod KeepingDrains
 pub mod Answering
-pub mod Bypassing
-pub mod TurnsById
 pub mod WordLists
 pub mod Numerals
 pub mod LinePieces

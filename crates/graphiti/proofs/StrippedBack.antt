@@ -4,9 +4,9 @@ use Rattle.std.specs.FinMap as map
 use Rattle.components.specs.Name.{Name}
 use Rattle.components.specs.Node.{Body}
 use Rattle.components.specs.NamedGraph.{NamedGraph}
-use Rattle.graphiti.specs.Behaviour.{StrippedTyped}
+use Rattle.rewrite.specs.Behaviour.{StrippedTyped}
 use Rattle.graphiti.specs.ReadBack.{StrippedCanBeRead}
-use Rattle.graphiti.specs.Stripped.{IsStripped}
+use Rattle.rewrite.specs.Stripped.{IsStripped}
 use Rattle.components.specs.Orders.{name_total, name_same}
 use Rattle.graphiti.proofs.MapEntries.{fewer_entries}
 

@@ -11,12 +11,12 @@ use Rattle.graphiti.specs.declared.status.Status.TheVariants.{Done, Usage, Synta
 use Rattle.graphiti.specs.declared.words.Command.{Command}
 use Rattle.graphiti.specs.declared.words.Command.TheVariants.{Print, Strip, Later}
 use Rattle.graphiti.specs.Words.{command_of}
-use Rattle.graphiti.specs.Stripped.{IsStripped, OnlyRingsAreLeft}
+use Rattle.rewrite.specs.Stripped.{IsStripped, OnlyRingsAreLeft}
 use Rattle.graph_read.specs.declared.fault.GraphRefusal.{GraphRefusal}
 use Rattle.graph_read.specs.GraphReading.{graph_reading}
 use Rattle.graph_read.specs.Pure.{has_pure}
 use Rattle.graphiti.specs.Input.{FaultAt, IsInputOf, IsGraphFault, IsNotYet}
-use Rattle.graphiti.specs.Behaviour.{KeepsDrains}
+use Rattle.rewrite.specs.Behaviour.{KeepsDrains}
 use Rattle.graphiti.specs.ReadBack.{IsTextOf}
 
 -- the most bytes of an input

@@ -1,7 +1,3 @@
-pub mod Stripped
-pub mod Strips
-pub mod Behaviour
-pub mod Bypass
 pub mod Status
 pub mod Words
 pub mod Input

@@ -6,7 +6,7 @@ use Rattle.components.specs.NamedGraph.{NamedGraph}
 use Rattle.graph_print.specs.CanonicalText.{text_of}
 use Rattle.graphiti.specs.CanonicalReading.{CanBeReadBack}
 use Rattle.graphiti.specs.CanonicalTexts.{KeptTexts}
-use Rattle.graphiti.specs.Stripped.{IsStripped}
+use Rattle.rewrite.specs.Stripped.{IsStripped}
 use Rattle.graphiti.specs.Input.{IsInputOf}
 
 -- within the limits of reading, and what it keeps can be quoted and is UTF-8

@@ -9,7 +9,6 @@ mod line;
 mod refusal;
 mod run;
 mod status;
-mod strip;
 #[cfg(test)]
 mod tests;
 mod words;

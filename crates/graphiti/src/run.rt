@@ -12,7 +12,6 @@ use crate::input::read_graph;
 use crate::laws::{print_of_print, stripped_can_be_read, text_reads_back};
 use crate::line::write_line;
 use crate::status::Status;
-use crate::strip::strip;
 use crate::words::{Command, command_of};
 use dot_text::{one_document, one_place, skipping_decides};
 use graph_core::Graph;
@@ -20,6 +19,7 @@ use graph_print::text_of;
 use graph_read::read_graphs_are_typed;
 use gx_base::{Sink, Source, write_all};
 use port_types::NoMemory;
+use rewrite::strip;
 use std::alloc::Global;
 
 /// All that the program does. The words are the command line without the program's name: `print` and `strip` read a document from `src`

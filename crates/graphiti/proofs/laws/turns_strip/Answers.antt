@@ -1,9 +1,0 @@
-use Rattle.graphiti.proofs.TurnsMade.{turns_end}
-use Rattle.graphiti.proofs.Stripping.{turns_strip}
-use Rattle.graphiti.proofs.laws.turns_strip.Goals as goal
-
-pub returns-clause-end : goal.returns-clause-end
-returns-clause-end c = turns_end
-
-pub returns-clause-strip : goal.returns-clause-strip
-returns-clause-strip c = turns_strip

@@ -1,0 +1,9 @@
+mod Dropping
+mod Meeting
+mod Turning
+mod TurnsMade
+mod StrippedByTurns
+mod Refining
+mod KeepingDrains
+mod Bypassing
+mod TurnsById

@@ -1,0 +1,4 @@
+pub mod Stripped
+pub mod Strips
+pub mod Behaviour
+pub mod Bypass
