@@ -16,7 +16,8 @@ use Rattle.graph_read.specs.Pure.{has_pure}
 use Rattle.graphiti.specs.declared.status.Status.{Status}
 use Rattle.graphiti.specs.declared.status.Status.TheVariants.{Done, Usage, Syntax, TooLong, Graph, ReadFault, WriteFault, NoMemory, NotYet}
 use Rattle.graphiti.specs.declared.words.Command.{Command}
-use Rattle.graphiti.specs.Input.{HoldsDocument, IsGraphInput, IsGraphFault, IsNotYet, FaultAt, none, unclosed, more}
+use Rattle.read_back.specs.Input.{HoldsDocument, IsGraphInput}
+use Rattle.graphiti.specs.Input.{IsGraphFault, IsNotYet, FaultAt, none, unclosed, more}
 use Rattle.graphiti.specs.Answer.{max_input, Reads, ReadsInput, ReadsRefused, Answers, AnswersInPart, IsRefused, too_long, at_fault, no_graph, not_yet}
 
 -- words that name no command read nothing

@@ -5,7 +5,8 @@ use Rattle.dot_text.specs.Documents.{Stands}
 use Rattle.dot_text.specs.Blanks.{SkipsTo, ended, byte}
 use Rattle.components.specs.NamedGraph.{NamedGraph}
 use Rattle.graph_read.specs.GraphReading.{graph_reading}
-use Rattle.graphiti.specs.Input.{FaultAt, IsInputOf, more}
+use Rattle.read_back.specs.Input.{IsInputOf}
+use Rattle.graphiti.specs.Input.{FaultAt, more}
 
 pub more_follows : (bytes : List ℕ) (document : Doc) (g : NamedGraph) (end place : ℕ) → Stands bytes 0 document end → graph_reading document ≡ Ok g → SkipsTo bytes end place → ¬ (place ≡ length bytes) → FaultAt bytes place
 more_follows bytes document g end place stands reads skips other =

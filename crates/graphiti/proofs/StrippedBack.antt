@@ -5,7 +5,7 @@ use Rattle.components.specs.Name.{Name}
 use Rattle.components.specs.Node.{Body}
 use Rattle.components.specs.NamedGraph.{NamedGraph}
 use Rattle.rewrite.specs.Behaviour.{StrippedTyped}
-use Rattle.graphiti.specs.ReadBack.{StrippedCanBeRead}
+use Rattle.graphiti.specs.StrippedReading.{StrippedCanBeRead}
 use Rattle.rewrite.specs.Stripped.{IsStripped}
 use Rattle.components.specs.Orders.{name_total, name_same}
 use Rattle.graphiti.proofs.MapEntries.{fewer_entries}

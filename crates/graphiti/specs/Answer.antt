@@ -15,9 +15,10 @@ use Rattle.rewrite.specs.Stripped.{IsStripped, OnlyRingsAreLeft}
 use Rattle.graph_read.specs.declared.fault.GraphRefusal.{GraphRefusal}
 use Rattle.graph_read.specs.GraphReading.{graph_reading}
 use Rattle.graph_read.specs.Pure.{has_pure}
-use Rattle.graphiti.specs.Input.{FaultAt, IsInputOf, IsGraphFault, IsNotYet}
+use Rattle.read_back.specs.Input.{IsInputOf}
+use Rattle.graphiti.specs.Input.{FaultAt, IsGraphFault, IsNotYet}
 use Rattle.rewrite.specs.Behaviour.{KeepsDrains}
-use Rattle.graphiti.specs.ReadBack.{IsTextOf}
+use Rattle.read_back.specs.ReadBack.{IsTextOf}
 
 -- the most bytes of an input
 abbrev pub max_input : ℕ

@@ -1,4 +1,4 @@
--- What stands in a whole input.
+-- What is wrong with an input.
 use Rattle.std.specs.Prelude.{◌≡◌, ℕ, ◌<◌, false, List, length, Ok, Err, IsTrue}
 use Rattle.dot_text.specs.declared.doc.Doc.{Doc}
 use Rattle.dot_text.specs.Documents.{Stands, Place}
@@ -7,21 +7,6 @@ use Rattle.components.specs.NamedGraph.{NamedGraph}
 use Rattle.graph_read.specs.declared.fault.GraphRefusal.{GraphRefusal}
 use Rattle.graph_read.specs.GraphReading.{graph_reading}
 use Rattle.graph_read.specs.Pure.{has_pure}
-
--- one document, with nothing behind it but blanks and comments
-pub record HoldsDocument (bytes : List ℕ) (document : Doc) : Type 0 where
-  pub end : ℕ
-  pub stands : Stands bytes 0 document end
-  pub behind : SkipsTo bytes end (length bytes)
-
--- a document, which is this graph
-pub record IsInputOf (g : NamedGraph) (bytes : List ℕ) : Type 0 where
-  pub document : Doc
-  pub holds : HoldsDocument bytes document
-  pub reads : graph_reading document ≡ Ok g
-
-abbrev pub IsGraphInput : List ℕ → Type 0
-IsGraphInput bytes = (g : NamedGraph) × IsInputOf g bytes
 
 -- no document stands in the bytes, or something else follows one that is a graph, and this shows at the place
 pub data FaultAt (bytes : List ℕ) (place : ℕ) : Type 0 where

@@ -3,16 +3,17 @@ ghost use Rattle.std.specs.Prelude.{◌≡◌, ◌≢◌, ℕ, ◌+◌, ◌≤�
 ghost use Rattle.gx_base.specs.Stream.{Gave, Rose};
 ghost use Rattle.graph_read.specs.declared.fault.GraphRefusal.{GraphRefusal};
 ghost use Rattle.graph_read.specs.GraphReading.{graph_reading};
-ghost use Rattle.graphiti.specs.ReadBack.{CanBeRead};
-ghost use Rattle.graphiti.specs.Input.{FaultAt, IsInputOf, IsGraphFault, IsNotYet};
+ghost use Rattle.read_back.specs.Input.{IsInputOf};
+ghost use Rattle.read_back.specs.ReadBack.{CanBeRead};
+ghost use Rattle.graphiti.specs.Input.{FaultAt, IsGraphFault, IsNotYet};
 ghost use Rattle.graphiti.specs.Answer.{max_input, ReadsGraph, ReadsRefused, IsDocumentRefused};
 
-use crate::laws::read_texts_can_be_quoted;
 use crate::status::Status;
 use dot_text::{Doc, DocFault, read_doc, skip_blank};
 use graph_core::Graph;
 use graph_read::{GraphFault, graph_of, has_pure};
 use gx_base::{ReadAllFault, Source, read_all};
+use read_back::read_texts_can_be_quoted;
 use std::alloc::Global;
 
 /// The most bytes of an input.

@@ -1,75 +1,7 @@
-//! Laws of the definitions that the contract of `run` speaks of: what is printed is read back.
-ghost use Rattle.graphiti.specs.CanonicalReading.{CanonicalReadsBack, ReadFits};
-ghost use Rattle.graphiti.specs.CanonicalTexts.{CanonicalPrints, ReadTexts};
-ghost use Rattle.graphiti.specs.ReadBack.{TextReadsBack, ReadCanBeRead, StrippedCanBeRead, PrintReadsBack, InputIsOneGraph, PrintOfPrint};
+//! A law of the definitions that the contract of `run` speaks of.
+ghost use Rattle.graphiti.specs.StrippedReading.{StrippedCanBeRead};
 
-use components::{ports_are_shapes, words_read_back};
-use dot_text::{
-    one_document, printed_document_is_utf8, printed_document_stands, standing_document_prints,
-};
-use graph_read::{numbers_read_back, read_graphs_are_typed, rows_are_met, rows_read_back};
-use port_types::{reads_back, reads_ports};
 use rewrite::stripped_refines;
-
-/// The canonical document of a graph within the limits of reading is read as that graph.
-pub fn canonical_document_reads_back()
-    ensures { CanonicalReadsBack }
-{
-    words_read_back();
-    ports_are_shapes();
-    reads_ports();
-    reads_back();
-    rows_read_back();
-    numbers_read_back();
-}
-
-/// The canonical document of a graph within the limits of reading can be printed, where the texts that the graph keeps can be quoted
-/// and are UTF-8.
-pub fn canonical_document_prints()
-    ensures { CanonicalPrints }
-{
-    ports_are_shapes();
-}
-
-/// The canonical text of such a graph is an input of that graph.
-pub fn text_reads_back()
-    ensures { TextReadsBack }
-{
-    printed_document_stands();
-    printed_document_is_utf8();
-    canonical_document_reads_back();
-    canonical_document_prints();
-}
-
-/// In a graph that is read the values of Constants fit 64 bits and no kept attribute is one that its kind owns. What it keeps can be
-/// quoted where the texts of the document can, and is UTF-8 where they are.
-pub fn read_graph_fits()
-    ensures fits { ReadFits }
-    ensures texts { ReadTexts }
-{
-    reads_ports();
-    rows_are_met();
-}
-
-/// A graph that was read is within the limits of reading, and the texts that it keeps can be quoted and are UTF-8.
-pub fn read_texts_can_be_quoted()
-    ensures { ReadCanBeRead }
-{
-    standing_document_prints();
-    read_graphs_are_typed();
-    read_graph_fits();
-}
-
-/// What is printed of a graph that was read is an input of that graph and of no other, so printing it again gives the same text.
-pub fn print_of_print()
-    ensures back { PrintReadsBack }
-    ensures one { InputIsOneGraph }
-    ensures same { PrintOfPrint }
-{
-    one_document();
-    text_reads_back();
-    read_texts_can_be_quoted();
-}
 
 /// The stripped graph of a graph that is within the limits of reading, and whose kept texts can be quoted and are UTF-8, is so too.
 pub fn stripped_can_be_read()

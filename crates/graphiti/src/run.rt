@@ -4,12 +4,12 @@ ghost use Rattle.gx_base.specs.Stream.{after, Gave, Rose};
 ghost use Rattle.graphiti.specs.declared.words.Command.TheVariants.{Later};
 ghost use Rattle.graphiti.specs.Status.{line_of};
 ghost use Rattle.graph_read.specs.declared.fault.GraphRefusal.{GraphRefusal};
-ghost use Rattle.graphiti.specs.Input.{IsGraphInput};
-ghost use Rattle.graphiti.specs.ReadBack.{CanBeRead, IsTextOf};
+ghost use Rattle.read_back.specs.Input.{IsGraphInput};
+ghost use Rattle.read_back.specs.ReadBack.{CanBeRead, IsTextOf};
 ghost use Rattle.graphiti.specs.Answer.{max_input, command_in, Reads, ReadsRefused, IsRefused, IsAnswer, IsTextOfStripped, WritesAll, WritesFront, AnswersInput, AnswersFront, Answers, AnswersInPart, WritesFrontOf};
 
 use crate::input::read_graph;
-use crate::laws::{print_of_print, stripped_can_be_read, text_reads_back};
+use crate::laws::stripped_can_be_read;
 use crate::line::write_line;
 use crate::status::Status;
 use crate::words::{Command, command_of};
@@ -19,6 +19,7 @@ use graph_print::text_of;
 use graph_read::read_graphs_are_typed;
 use gx_base::{Sink, Source, write_all};
 use port_types::NoMemory;
+use read_back::print_of_print;
 use rewrite::strip;
 use std::alloc::Global;
 
@@ -195,7 +196,6 @@ fn text_read_back(alloc: Global, g: &Graph) -> Result<Vec<u8>, NoMemory>
     requires { CanBeRead g.now.graph }
     ensures { IfOk result (λ text. IsTextOf g.now.graph text.items) }
 {
-    text_reads_back();
     print_of_print();
     let text = text_of(alloc, g)?;
     Ok(text)

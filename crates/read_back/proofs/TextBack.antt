@@ -6,9 +6,9 @@ use Rattle.dot_text.specs.Lexical.{Skipped.blank}
 use Rattle.dot_text.specs.Blanks.{Blanks.none as no_blank, Blanks.skip, FirstByte.ended, SkipsTo}
 use Rattle.dot_text.specs.Printing.{printed}
 use Rattle.graph_print.specs.CanonicalText.{canonical_document}
-use Rattle.graphiti.specs.CanonicalReading.{CanonicalReadsBack}
-use Rattle.graphiti.specs.CanonicalTexts.{CanonicalPrints}
-use Rattle.graphiti.specs.ReadBack.{TextReadsBack}
+use Rattle.read_back.specs.CanonicalReading.{CanonicalReadsBack}
+use Rattle.read_back.specs.CanonicalTexts.{CanonicalPrints}
+use Rattle.read_back.specs.ReadBack.{TextReadsBack}
 
 -- the last LF is a blank, and nothing stands behind it
 line_end : (lines : List ℕ) → SkipsTo (lines ++ codes "\n") (length lines) (length (lines ++ codes "\n"))

@@ -4,10 +4,9 @@ use Rattle.std.specs.Str.{IsUtf8}
 use Rattle.dot_text.specs.Printing.{CanBeQuoted}
 use Rattle.components.specs.NamedGraph.{NamedGraph}
 use Rattle.graph_print.specs.CanonicalText.{text_of}
-use Rattle.graphiti.specs.CanonicalReading.{CanBeReadBack}
-use Rattle.graphiti.specs.CanonicalTexts.{KeptTexts}
-use Rattle.rewrite.specs.Stripped.{IsStripped}
-use Rattle.graphiti.specs.Input.{IsInputOf}
+use Rattle.read_back.specs.CanonicalReading.{CanBeReadBack}
+use Rattle.read_back.specs.CanonicalTexts.{KeptTexts}
+use Rattle.read_back.specs.Input.{IsInputOf}
 
 -- within the limits of reading, and what it keeps can be quoted and is UTF-8
 pub record CanBeRead (g : NamedGraph) : Type 0 where
@@ -25,13 +24,13 @@ pub record IsTextOf (g : NamedGraph) (text : List ℕ) : Type 0 where
   pub back : IsInputOf g text
   pub alone : (other : NamedGraph) → IsInputOf other text → other ≡ g
 
+-- a text that is the canonical text of such a graph is an input of it and of no other
+abbrev pub TextTellsGraph : Type 0
+TextTellsGraph = (g : NamedGraph) (text : List ℕ) → CanBeRead g → text ≡ text_of g → IsTextOf g text
+
 -- a graph that was read is within the limits: its kept texts stood in a document, so they can be written
 abbrev pub ReadCanBeRead : Type 0
 ReadCanBeRead = (g : NamedGraph) (bytes : List ℕ) → IsInputOf g bytes → CanBeRead g
-
--- so is the stripped graph of a graph within them
-abbrev pub StrippedCanBeRead : Type 0
-StrippedCanBeRead = (g h : NamedGraph) → CanBeRead g → IsStripped g h → CanBeRead h
 
 -- what is printed of a graph that was read is an input of the same graph
 abbrev pub PrintReadsBack : Type 0

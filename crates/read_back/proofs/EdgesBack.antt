@@ -21,7 +21,7 @@ use Rattle.graph_read.specs.GraphReading.{NamedWire, port_there, wire_between, e
 use Rattle.components.specs.Entries as lists
 use Rattle.components.specs.Orders.{port_total, port_same, same_bytes}
 use Rattle.components.specs.Entries.{none_before, found_there, each_entry}
-use Rattle.graphiti.proofs.MapEntries.{none_passes}
+use Rattle.read_back.proofs.MapEntries.{none_passes}
 
 abbrev Wire : Type 0
 Wire = Port × Port

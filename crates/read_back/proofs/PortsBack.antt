@@ -18,7 +18,7 @@ use Rattle.components.specs.Laws.{PortsAreShapes}
 use Rattle.graph_print.specs.Markers.{marker_ok}
 use Rattle.graph_print.specs.CanonicalText.{PrintedPort, marker, marked_from, marked_ports}
 use Rattle.graph_read.specs.NodeReading.{has_star, shapes_in, text_reading}
-use Rattle.graphiti.proofs.PairsBack.{text_of_side}
+use Rattle.read_back.proofs.PairsBack.{text_of_side}
 
 -- ---- the printed ports are ports of the format
 

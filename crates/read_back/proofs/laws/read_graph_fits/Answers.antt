@@ -1,5 +1,5 @@
-use Rattle.graphiti.proofs.ReadNodes.{read_fits, read_texts}
-use Rattle.graphiti.proofs.laws.read_graph_fits.Goals as goal
+use Rattle.read_back.proofs.ReadNodes.{read_fits, read_texts}
+use Rattle.read_back.proofs.laws.read_graph_fits.Goals as goal
 
 pub returns-clause-fits : goal.returns-clause-fits
 returns-clause-fits c = read_fits c.reads_ports.ensures c.rows_are_met.ensures

@@ -1,5 +1,5 @@
-use Rattle.graphiti.proofs.TextBack.{text_reads_back}
-use Rattle.graphiti.proofs.laws.text_reads_back.Goals as goal
+use Rattle.read_back.proofs.TextBack.{text_reads_back}
+use Rattle.read_back.proofs.laws.text_reads_back.Goals as goal
 
 pub returns : goal.returns
 returns c =

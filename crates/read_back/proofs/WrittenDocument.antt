@@ -22,14 +22,14 @@ use Rattle.components.specs.Node.{Body}
 use Rattle.components.specs.NamedGraph.{NamedGraph, IsWire}
 use Rattle.components.specs.Laws.{PortsAreShapes}
 use Rattle.graph_print.specs.CanonicalText.{PrintedPort, kind_word, hexadecimal, own_pairs, side_pairs, printed_side, marked_ports, pairs_of, node_entry, edge_entry, canonical_document}
-use Rattle.graphiti.specs.CanonicalReading.{ValueFits, CanBeReadBack}
-use Rattle.graphiti.specs.CanonicalTexts.{KeptTexts, CanonicalPrints}
+use Rattle.read_back.specs.CanonicalReading.{ValueFits, CanBeReadBack}
+use Rattle.read_back.specs.CanonicalTexts.{KeptTexts, CanonicalPrints}
 use Rattle.components.specs.Orders.{name_total, name_same, port_total, port_same}
-use Rattle.graphiti.proofs.Each.{each_append, each_mapped, each_changed}
+use Rattle.read_back.proofs.Each.{each_append, each_mapped, each_changed}
 use Rattle.components.specs.Entries.{each_entry}
-use Rattle.graphiti.proofs.PortsBack.{are_ports}
-use Rattle.graphiti.proofs.PortNames.{last_port}
-use Rattle.graphiti.proofs.WrittenTexts.{IsWritten, written, side_simple, name_simple, ports_simple, word_simple, op_simple, hexadecimal_simple, decimal_written}
+use Rattle.read_back.proofs.PortsBack.{are_ports}
+use Rattle.read_back.proofs.PortNames.{last_port}
+use Rattle.read_back.proofs.WrittenTexts.{IsWritten, written, side_simple, name_simple, ports_simple, word_simple, op_simple, hexadecimal_simple, decimal_written}
 
 -- ---- the texts of a node
 

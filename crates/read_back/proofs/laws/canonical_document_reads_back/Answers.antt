@@ -1,6 +1,6 @@
 -- The laws of the crates below are what the calls ensure.
-use Rattle.graphiti.proofs.CanonicalGraph.{canonical_reads_back}
-use Rattle.graphiti.proofs.laws.canonical_document_reads_back.Goals as goal
+use Rattle.read_back.proofs.CanonicalGraph.{canonical_reads_back}
+use Rattle.read_back.proofs.laws.canonical_document_reads_back.Goals as goal
 
 pub returns : goal.returns
 returns c =

@@ -10,7 +10,7 @@ use Rattle.components.specs.Node.{Body}
 use Rattle.components.specs.NamedGraph.{NamedGraph}
 use Rattle.graph_print.specs.CanonicalText.{canonical_document}
 use Rattle.graph_read.specs.GraphReading.{graph_reading}
-use Rattle.graphiti.specs.CanonicalReading.{CanBeReadBack}
+use Rattle.read_back.specs.CanonicalReading.{CanBeReadBack}
 
 -- each key and value that a node keeps is so
 abbrev pub KeptTexts : (List ℕ → Type 0) → NamedGraph → Type 0

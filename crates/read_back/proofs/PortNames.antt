@@ -12,7 +12,7 @@ use Rattle.components.specs.NamedGraph.{NamedGraph, IsTyped}
 use Rattle.components.specs.Laws.{PortsAreShapes}
 use Rattle.graph_read.specs.GraphReading.{named_in}
 use Rattle.components.specs.Orders.{same_bytes, other_bytes}
-use Rattle.graphiti.proofs.EdgesBack.{NamesPorts}
+use Rattle.read_back.proofs.EdgesBack.{NamesPorts}
 
 pub last_port : {A : Type 0} (xs : List A) (port : ℕ) (x : A) → port_get xs port ≡ Some x → port ≤ length xs
 last_port [] port x is = absurd (cc)

@@ -16,9 +16,9 @@ use Rattle.graph_read.specs.Attributes.{Pair, last_value}
 use Rattle.graph_read.specs.NodeReading.{has_star, text_reading, ports_reading, component_reading, named_reading, word_reading, kind_reading, with_kept, body_reading}
 use Rattle.components.specs.Component.{component_at, WordsReadBack}
 use Rattle.graph_read.specs.Laws.{Says, RowsReadBack, HexadecimalValues, DecimalTags}
-use Rattle.graphiti.specs.CanonicalReading.{ValueFits}
-use Rattle.graphiti.proofs.PairsBack.{front, front_own, text_of_side, owned_last, says_type, says_ports, keeps}
-use Rattle.graphiti.proofs.PortsBack.{ports_read, ports_starless}
+use Rattle.read_back.specs.CanonicalReading.{ValueFits}
+use Rattle.read_back.proofs.PairsBack.{front, front_own, text_of_side, owned_last, says_type, says_ports, keeps}
+use Rattle.read_back.proofs.PortsBack.{ports_read, ports_starless}
 
 -- the pairs say of each owned key what the pairs of the kind say
 abbrev SayOwned : Kind → List Pair → Type 0

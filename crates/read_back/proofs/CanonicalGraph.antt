@@ -6,14 +6,14 @@ use Rattle.components.specs.Node.{Body}
 use Rattle.components.specs.NamedGraph.{NamedGraph}
 use Rattle.graph_print.specs.CanonicalText.{edge_entry, canonical_document}
 use Rattle.graph_read.specs.GraphReading.{graph_of_nodes, edges_reading, unless, closed, wired, graph_reading}
-use Rattle.graphiti.specs.CanonicalReading.{CanBeReadBack, CanonicalReadsBack}
+use Rattle.read_back.specs.CanonicalReading.{CanBeReadBack, CanonicalReadsBack}
 use Rattle.components.specs.Orders.{name_total, name_same, port_total, port_same}
 use Rattle.components.specs.Lookups.{from_entries-entries}
-use Rattle.graphiti.proofs.BodiesBack.{ReadingLaws, body_read}
-use Rattle.graphiti.proofs.NodesBack.{SaysBodies, nodes_back}
-use Rattle.graphiti.proofs.PortNames.{names_ports}
-use Rattle.graphiti.proofs.EdgesBack.{edges_back}
-use Rattle.graphiti.proofs.PortsClosed.{none_open}
+use Rattle.read_back.proofs.BodiesBack.{ReadingLaws, body_read}
+use Rattle.read_back.proofs.NodesBack.{SaysBodies, nodes_back}
+use Rattle.read_back.proofs.PortNames.{names_ports}
+use Rattle.read_back.proofs.EdgesBack.{edges_back}
+use Rattle.read_back.proofs.PortsClosed.{none_open}
 
 module _ (laws : ReadingLaws) (g : NamedGraph) (within : CanBeReadBack g) where
   abbrev nodes : List (Name × Body)

@@ -1,5 +1,5 @@
-use Rattle.graphiti.proofs.ReadAgain.{read_can_be_read}
-use Rattle.graphiti.proofs.laws.read_texts_can_be_quoted.Goals as goal
+use Rattle.read_back.proofs.ReadAgain.{read_can_be_read}
+use Rattle.read_back.proofs.laws.read_texts_can_be_quoted.Goals as goal
 
 pub returns : goal.returns
 returns c =

@@ -21,7 +21,7 @@ use Rattle.graph_read.specs.NodeReading.{NodeReading, is_name, is_name_byte, bod
 use Rattle.graph_read.specs.GraphReading.{then_read, names_of, nodes_reading}
 use Rattle.components.specs.Entries as lists
 use Rattle.components.specs.Orders.{name_total, name_same, other_bytes}
-use Rattle.graphiti.proofs.Each.{each_append, each_changed}
+use Rattle.read_back.proofs.Each.{each_append, each_changed}
 use Rattle.components.specs.Entries.{none_before, found_there}
 
 -- ---- the tests of a node

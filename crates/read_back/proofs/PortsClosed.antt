@@ -12,15 +12,15 @@ use Rattle.components.specs.Kind.{Shape, ports}
 use Rattle.components.specs.Node.{Body}
 use Rattle.components.specs.NamedGraph.{NamedGraph, IsTyped, is_wired}
 use Rattle.graph_read.specs.GraphReading.{first_free, open_port, open_refusal, first_open}
-use Rattle.components.specs.Orders.{name_total, name_same, port_total, port_same, same_bytes}
+use Rattle.components.specs.Orders.{name_total, name_same, same_bytes}
 use Rattle.components.specs.Entries.{found_there}
-use Rattle.graphiti.proofs.MapEntries.{found_passes}
+use Rattle.read_back.proofs.MapEntries.{found_passes}
 
 module _ (g : NamedGraph) (typed : IsTyped g) where
   -- the output feeds the wire that is there
   feeding : (p target : Port) → map_of.get g.feeders target ≡ Some p → is_wired g Outs p ≡ true
   feeding p target is =
-      found_passes port_total port_same (λ wire. bytes_eq wire.1.node p.node && (wire.1.port == p.port)) target p
+      found_passes (λ wire. bytes_eq wire.1.node p.node && (wire.1.port == p.port)) target p
       (λ q. and_from (bytes_eq p.node p.node) (p.port == p.port) (same_bytes p.node p.node refl) (eq-eqb p.port p.port refl)) (map_of.entries g.feeders)
       (sym (map_of.get-entries g.feeders target) ∙ is)
 

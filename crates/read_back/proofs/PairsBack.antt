@@ -20,7 +20,7 @@ use Rattle.graph_read.specs.Attributes.{Pair, last_value}
 use Rattle.components.specs.Entries as lists
 use Rattle.components.specs.Lookups.{same_test, other_test}
 use Rattle.components.specs.Orders.{name_total, name_same, name_cases, same_bytes, other_bytes}
-use Rattle.graphiti.proofs.Each.{each_append}
+use Rattle.read_back.proofs.Each.{each_append}
 
 -- ---- values of keys
 

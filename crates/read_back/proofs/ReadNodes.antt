@@ -40,13 +40,13 @@ use Rattle.graph_read.specs.Rows.{Reading}
 use Rattle.graph_read.specs.NodeReading.{NodeReading, is_memory, is_name, shapes_in, text_reading, side_reading, ports_reading, component_reading, named_reading, word_reading, kind_reading, with_kept, body_reading, within_limit, node_reading}
 use Rattle.graph_read.specs.GraphReading.{refusal, graph_reading, NamedWire, NodesReading, GraphReading, then_read, names_of, nodes_reading, edge_reading, edges_reading, first_open, graph_of_nodes, unless, closed, wired}
 use Rattle.graph_read.specs.Laws.{AreRead, RowsAreMet, Says}
-use Rattle.graphiti.specs.CanonicalReading.{ValueFits, ReadFits}
-use Rattle.graphiti.specs.CanonicalTexts.{KeptTexts, ReadTexts}
+use Rattle.read_back.specs.CanonicalReading.{ValueFits, ReadFits}
+use Rattle.read_back.specs.CanonicalTexts.{KeptTexts, ReadTexts}
 use Rattle.components.specs.Lookups.{found_if}
 use Rattle.components.specs.Orders.{name_total, name_same}
-use Rattle.graphiti.proofs.Each.{each_append, each_mapped, each_changed}
+use Rattle.read_back.proofs.Each.{each_append, each_mapped, each_changed}
 use Rattle.components.specs.Entries.{found_entry}
-use Rattle.graphiti.proofs.PairsBack.{in_reverse}
+use Rattle.read_back.proofs.PairsBack.{in_reverse}
 
 -- ---- answers
 

@@ -1,15 +1,14 @@
 -- What is printed of a graph that was read can be read again.
-use Rattle.std.proofs.Common.{◌≡◌, ℕ, List, sym, ap, subst, ◌∙◌}
+use Rattle.std.proofs.Common.{sym, ap, subst, ◌∙◌}
 use Rattle.dot_text.specs.Laws.{OneDocument, StandingPrints, StandingIsUtf8}
-use Rattle.components.specs.NamedGraph.{NamedGraph}
 use Rattle.graph_print.specs.CanonicalText.{text_of}
 use Rattle.graph_read.specs.GraphReading.{graph_reading}
 use Rattle.graph_read.specs.GraphLaws.{ReadIsTyped, ReadHasAllowedNames}
-use Rattle.graphiti.specs.CanonicalReading.{ReadFits}
-use Rattle.graphiti.specs.CanonicalTexts.{ReadTexts}
-use Rattle.graphiti.specs.Input.{IsInputOf}
-use Rattle.graphiti.specs.ReadBack.{CanBeRead, IsTextOf, TextReadsBack, ReadCanBeRead, PrintReadsBack, InputIsOneGraph, PrintOfPrint}
-use Rattle.graphiti.proofs.ReadNodes.{same_answer}
+use Rattle.read_back.specs.CanonicalReading.{ReadFits}
+use Rattle.read_back.specs.CanonicalTexts.{ReadTexts}
+use Rattle.read_back.specs.Input.{IsInputOf}
+use Rattle.read_back.specs.ReadBack.{TextReadsBack, ReadCanBeRead, PrintReadsBack, InputIsOneGraph, PrintOfPrint, TextTellsGraph}
+use Rattle.read_back.proofs.ReadNodes.{same_answer}
 
 pub read_can_be_read : StandingPrints → StandingIsUtf8 → ReadIsTyped → ReadHasAllowedNames → ReadFits → ReadTexts → ReadCanBeRead
 read_can_be_read prints utf8 typed named fits texts g bytes input =
@@ -36,7 +35,7 @@ input_is_one_graph one_document g h bytes a b =
 pub print_of_print : PrintReadsBack → InputIsOneGraph → PrintOfPrint
 print_of_print back one g h bytes input again = ap text_of (one h g (text_of g) again (back g bytes input))
 
-pub is_text_of : TextReadsBack → InputIsOneGraph → (g : NamedGraph) (text : List ℕ) → CanBeRead g → text ≡ text_of g → IsTextOf g text
-is_text_of back one g text can is =
+pub text_tells_graph : TextReadsBack → InputIsOneGraph → TextTellsGraph
+text_tells_graph back one g text can is =
     let input = subst (IsInputOf g) (sym is) (back g can) in
     record { is = is; back = input; alone = λ other again. one other g text again input }

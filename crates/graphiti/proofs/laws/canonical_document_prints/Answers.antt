@@ -1,5 +1,0 @@
-use Rattle.graphiti.proofs.WrittenDocument.{canonical_prints}
-use Rattle.graphiti.proofs.laws.canonical_document_prints.Goals as goal
-
-pub returns : goal.returns
-returns c = canonical_prints c.ports_are_shapes.ensures

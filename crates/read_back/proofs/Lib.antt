@@ -1,0 +1,15 @@
+mod Each
+mod MapEntries
+mod EdgesBack
+mod PortsClosed
+mod NodesBack
+mod PairsBack
+mod PortsBack
+mod BodiesBack
+mod PortNames
+mod CanonicalGraph
+mod ReadNodes
+mod WrittenTexts
+mod WrittenDocument
+mod TextBack
+mod ReadAgain

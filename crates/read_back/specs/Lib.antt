@@ -1,0 +1,4 @@
+pub mod Input
+pub mod CanonicalReading
+pub mod CanonicalTexts
+pub mod ReadBack
