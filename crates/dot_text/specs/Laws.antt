@@ -46,6 +46,10 @@ ReadingDecides = (bytes : List ℕ) (from : ℕ) → from ≤ length bytes → I
 abbrev pub LooksNoFurther : Type 0
 LooksNoFurther = (below after other : List ℕ) (from : ℕ) (doc : Doc) → Stands (below ++ after) from doc (length below) → Stands (below ++ other) from doc (length below)
 
+-- a document ends within the bytes
+abbrev pub StandsWithin : Type 0
+StandsWithin = (bytes : List ℕ) (from to : ℕ) (doc : Doc) → from ≤ length bytes → Stands bytes from doc to → to ≤ length bytes
+
 -- the bytes of a document, from the place where it is read to its end, are UTF-8
 abbrev pub DocumentIsUtf8 : Type 0
 DocumentIsUtf8 = (bytes : List ℕ) (from : ℕ) (doc : Doc) (to : ℕ) → Stands bytes from doc to → IsUtf8 (take (to - from) (drop from bytes))

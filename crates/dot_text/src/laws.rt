@@ -1,4 +1,4 @@
-ghost use Rattle.dot_text.specs.Laws.{TokenIsLongest, OneDocument, OnePlace, NoPlaceInDocument, MachineGoes, MachineEnds, ReadingDecides, LooksNoFurther, DocumentIsUtf8, PrintedStands, PrintedIsUtf8, StandingPrints, StandingIsUtf8, StandingStandsPrinted, StreamDecides, StreamGoesOn, StreamFinds, StreamFindsAtOnce, StreamFails, SkippingDecides, OneEndOfBlanks, OneUnclosed, NotBothSkips};
+ghost use Rattle.dot_text.specs.Laws.{TokenIsLongest, OneDocument, OnePlace, NoPlaceInDocument, MachineGoes, MachineEnds, ReadingDecides, LooksNoFurther, StandsWithin, DocumentIsUtf8, PrintedStands, PrintedIsUtf8, StandingPrints, StandingIsUtf8, StandingStandsPrinted, StreamDecides, StreamGoesOn, StreamFinds, StreamFindsAtOnce, StreamFails, SkippingDecides, OneEndOfBlanks, OneUnclosed, NotBothSkips};
 
 /// A token is the longest one that begins at its byte.
 pub fn token_is_longest()
@@ -27,9 +27,10 @@ pub fn reading_decides()
     ensures { ReadingDecides }
 {}
 
-/// Whether a document stands at a place with an end depends on the bytes below that end alone.
+/// Whether a document stands at a place with an end depends on the bytes below that end alone, and these are there.
 pub fn document_looks_no_further()
-    ensures { LooksNoFurther }
+    ensures below { LooksNoFurther }
+    ensures within { StandsWithin }
 {}
 
 /// The bytes of a document, from the place where it is read to its end, are UTF-8.
