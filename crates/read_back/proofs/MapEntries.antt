@@ -18,7 +18,7 @@ at_entry test e es x passes false later is = or_right (test e) (list_any test es
 pub none_passes : {A : Type 0} (test : A → Bool) (xs : List A) → AllByRecursion (λ x. test x ≡ false) xs → list_any test xs ≡ false
 none_passes test xs each = list_any_none test xs (All-from_recursion (λ x. test x ≡ false) xs each)
 
-module _ {K X : Type 0} {R : K → K → Ordering} where
+module _ {K X : Type 0} (R : K → K → Ordering) where
   -- what is found is some entry's value
   pub found_passes : (test : K × X → Bool) (q : K) (x : X) → ((k : K) → test (k, x) ≡ true) → (es : List (K × X)) → find R q es ≡ Some x → list_any test es ≡ true
   found_passes test q x passes [] found = absurd (none-some x found)

@@ -7,7 +7,7 @@ use Rattle.std.proofs.lemmas.Bool.{and_from, eq-eqb}
 use Rattle.std.proofs.lemmas.List.{append_assoc}
 use Rattle.port_types.specs.declared.side.Side.{Side}
 use Rattle.port_types.specs.declared.side.Side.TheVariants.{Ins, Outs}
-use Rattle.components.specs.Name.{Name, Port, port_get}
+use Rattle.components.specs.Name.{Name, Port, port_cmp, port_get}
 use Rattle.components.specs.Kind.{Shape, ports}
 use Rattle.components.specs.Node.{Body}
 use Rattle.components.specs.NamedGraph.{NamedGraph, IsTyped, is_wired}
@@ -20,7 +20,7 @@ module _ (g : NamedGraph) (typed : IsTyped g) where
   -- the output feeds the wire that is there
   feeding : (p target : Port) → map_of.get g.feeders target ≡ Some p → is_wired g Outs p ≡ true
   feeding p target is =
-      found_passes (λ wire. bytes_eq wire.1.node p.node && (wire.1.port == p.port)) target p
+      found_passes port_cmp (λ wire. bytes_eq wire.1.node p.node && (wire.1.port == p.port)) target p
       (λ q. and_from (bytes_eq p.node p.node) (p.port == p.port) (same_bytes p.node p.node refl) (eq-eqb p.port p.port refl)) (map_of.entries g.feeders)
       (sym (map_of.get-entries g.feeders target) ∙ is)
 
