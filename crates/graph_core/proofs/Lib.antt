@@ -15,6 +15,7 @@ mod Counting
 mod Exchanging
 mod Exchanged
 mod Looped
+mod Crossed
 mod Grown
 mod InOrder
 mod SameGraphs

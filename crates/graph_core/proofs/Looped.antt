@@ -20,22 +20,22 @@ use Rattle.graph_core.specs.declared.place.NodeId.{NodeId}
 use Rattle.graph_core.specs.GraphValue.{GraphValue, Denotes, IsGraph, name_by}
 use Rattle.graph_core.specs.Exchange.{CanExchange, IsAtNode, end_port, with_fresh}
 
-one : {A : Type 0} (P : A → Type 0) (x : A) → P x → All P (x ∷ [])
+pub one : {A : Type 0} (P : A → Type 0) (x : A) → P x → All P (x ∷ [])
 one P x p zero d below = p
 one P x p (suc k) d below = absurd (omega arith)
 
-two : {A : Type 0} (P : A → Type 0) (x y : A) → P x → P y → All P (x ∷ y ∷ [])
+pub two : {A : Type 0} (P : A → Type 0) (x y : A) → P x → P y → All P (x ∷ y ∷ [])
 two P x y p q zero d below = p
 two P x y p q (suc zero) d below = q
 two P x y p q (suc (suc k)) d below = absurd (omega arith)
 
-pair : {A : Type 0} (P : A → A → Type 0) (x y : A) → P x y → AllPairs P (x ∷ y ∷ [])
+pub pair : {A : Type 0} (P : A → A → Type 0) (x y : A) → P x y → AllPairs P (x ∷ y ∷ [])
 pair P x y p zero zero d less below = absurd (omega arith)
 pair P x y p zero (suc zero) d less below = p
 pair P x y p zero (suc (suc j)) d less below = absurd (omega arith)
 pair P x y p (suc i) j d less below = absurd (omega arith)
 
-alone : {A : Type 0} (P : A → A → Type 0) (x : A) → AllPairs P (x ∷ [])
+pub alone : {A : Type 0} (P : A → A → Type 0) (x : A) → AllPairs P (x ∷ [])
 alone P x i j d less below = absurd (omega arith)
 
 removed_none : {K X : Type 0} {R : K → K → Ordering} (total : IsTotalOrder R) (same : IsAntisymmetric R) (m : FinMap R X) (k q : K) → finite.get m q ≡ None → finite.get (finite.remove m k) q ≡ None
@@ -46,12 +46,12 @@ removed_none total same m k q none =
     ]
 
 -- no wire is at a node that is not there
-record IsAway (g : NamedGraph) (name : Name) : Type 0 where
-  node : finite.get g.nodes name ≡ None
-  into : (port : Port) (source : Port) → finite.get g.feeders port ≡ Some source → port.node ≢ name
-  from : (port : Port) (source : Port) → finite.get g.feeders port ≡ Some source → source.node ≢ name
+pub record IsAway (g : NamedGraph) (name : Name) : Type 0 where
+  pub node : finite.get g.nodes name ≡ None
+  pub into : (port : Port) (source : Port) → finite.get g.feeders port ≡ Some source → port.node ≢ name
+  pub from : (port : Port) (source : Port) → finite.get g.feeders port ≡ Some source → source.node ≢ name
 
-away_without : (g : NamedGraph) (other name : Name) → IsAway g name → IsAway (without_node g other) name
+pub away_without : (g : NamedGraph) (other name : Name) → IsAway g name → IsAway (without_node g other) name
 away_without g other name away =
     record {
       node = removed_none name_total name_same g.nodes other name away.node;

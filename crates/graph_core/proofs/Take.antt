@@ -28,7 +28,7 @@ use Rattle.graph_core.proofs.Standing.{some_then, some_flat, end_live, live_id, 
 use Rattle.graph_core.proofs.Put.{node_off, slot_off}
 use Rattle.graph_core.proofs.Cutting.{outs_not_ins, ins_not_outs, cut_node, cut_slots, cut_room, cut_other, cut_only, cut_keeps, cut_gone}
 
-neither : (a b : Bool) → not (a || b) ≡ true → (a ≡ false) × (b ≡ false)
+pub neither : (a b : Bool) → not (a || b) ≡ true → (a ≡ false) × (b ≡ false)
 neither true b e = absurd (true≢false (sym e))
 neither false true e = absurd (true≢false (sym e))
 neither false false e = (refl, refl)

@@ -1,5 +1,6 @@
 //! Worked graphs.
-ghost use Rattle.std.specs.Prelude.{◌≡◌, IfOk};
+ghost use Rattle.std.specs.Prelude.{◌≡◌, [], ◌∷◌, IfOk};
+ghost use Rattle.components.specs.declared.kind.Kind.TheVariants.{Buffer};
 ghost use Rattle.components.specs.Node.{NodeOk};
 
 use crate::{End, Graph, NodeId, PortAt, check_typed, same_graph};
@@ -8,7 +9,9 @@ use port_types::{Items, Shape, Text};
 use std::alloc::Global;
 use std::test::Fail;
 
-fn byte(alloc: Global) -> Result<Shape, Fail> {
+fn byte(alloc: Global) -> Result<Shape, Fail>
+    ensures { IfOk result (λ shape. shape ≡ 8 ∷ []) }
+{
     Ok(Shape::new(vec![in alloc; 8]?).ok_or("no shape")?)
 }
 
@@ -122,5 +125,56 @@ fn one_node_for_two(rt: HostRuntime) -> Result<(), Fail> {
     assert_eq!(rt; g.slots(), 3);
     assert_eq!(rt; g.by_name(alloc)?.len(), 1);
     assert!(rt; check_typed(&g).is_ok());
+    Ok(())
+}
+
+fn buffer(alloc: Global, name: &str) -> Result<Node, Fail>
+    ensures { IfOk result (λ node. NodeOk node × (node.kind ≡ Buffer (8 ∷ []))) }
+{
+    node(alloc, name, Kind::Buffer(byte(alloc)?))
+}
+
+fn pair(alloc: Global, one: Node, other: Node) -> Result<Vec<Node>, Fail>
+    ensures { IfOk result (λ nodes. nodes.items ≡ one ∷ other ∷ []) }
+{
+    let mut nodes = Vec::new(alloc);
+    nodes.push(one)?;
+    nodes.push(other)?;
+    Ok(nodes)
+}
+
+/// Two Buffers, each of which feeds the other, in the places of the nodes with their names.
+fn cross(g: &mut Graph, alloc: Global, one: Node, other: Node) -> Result<(), Fail>
+    requires one { NodeOk one × (one.kind ≡ Buffer (8 ∷ [])) }
+    requires other { NodeOk other × (other.kind ≡ Buffer (8 ∷ [])) }
+{
+    let a = g.find(one.name.bytes()).ok_or("no node")?;
+    let b = g.find(other.name.bytes()).ok_or("no node")?;
+    g.is_graph();
+    if a == b {
+        return Err("one node".into());
+    }
+    let fresh = pair(alloc, one, other)?;
+    let (x, y) = (End::Fresh(0, 1), End::Fresh(1, 1));
+    g.exchange([a, b].as_slice(), fresh, [(x, y), (y, x)].as_slice())?;
+    Ok(())
+}
+
+#[test]
+fn two_wires_exchange_their_ends(rt: HostRuntime) -> Result<(), Fail> {
+    let alloc = rt.alloc();
+    let mut g = Graph::new(alloc);
+    for name in ["a", "b"] {
+        let id = add(&mut g, alloc, name, Kind::Buffer(byte(alloc)?))?;
+        g.add_wire(first(id), first(id)).ok().ok_or("no wire")?;
+    }
+    let one = buffer(alloc, "a")?;
+    let other = buffer(alloc, "b")?;
+    cross(&mut g, alloc, one, other)?;
+    let a = g.find(b"a".as_slice()).ok_or("no node")?;
+    let b = g.find(b"b".as_slice()).ok_or("no node")?;
+    assert_eq!(rt; g.wire_from(first(a)), Some(first(b)));
+    assert_eq!(rt; g.wire_from(first(b)), Some(first(a)));
+    assert_eq!(rt; g.slots(), 2);
     Ok(())
 }
