@@ -3,15 +3,9 @@
 //! status is passed on.
 #![tactic(auto)]
 
-mod input;
-mod laws;
-mod line;
-mod refusal;
 mod run;
-mod status;
 #[cfg(test)]
 mod tests;
-mod words;
 
 use gx_base::{StdSink, StdSource};
 use port_types::NoMemory;

@@ -39,9 +39,7 @@ impl CleanSource {
 }
 
 impl Source for CleanSource {
-    ghost left = { λ s. Some s.left };
-
-    ghost faults = { λ _. 0 };
+    ghost told = { λ s. record { bytes = Some s.left; faults = 0 } };
 
     fn read(&mut self, buf: &mut [u8]) -> Result<usize, Failed>
         requires some_room { 0 < length buf.old }

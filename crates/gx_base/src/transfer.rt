@@ -1,6 +1,6 @@
 //! A whole stream read, and a whole text written.
 ghost use Rattle.std.specs.Prelude.{◌≡◌, ◌+◌, ◌-◌, ◌^◌, ◌<◌, ◌≤◌, [], true, false, Some, take, drop, length, IfOk, OnOk, IfErr, IfSome, IsErrOf};
-ghost use Rattle.gx_base.specs.Stream.{before, after, Gave, Rose};
+ghost use Rattle.gx_base.specs.Stream.{before, NeverFell, CountRose, GaveWhole, GaveSome, Gave, Took};
 
 use crate::sink::Sink;
 use crate::source::Source;
@@ -25,27 +25,26 @@ pub enum ReadAllFault {
 pub fn read_all<S: Source>(alloc: Global, src: &mut S, max: usize) -> Result<Vec<u8>, ReadAllFault>
     requires { max < 2 ^ 64 - 1 }
 
-    ensures never_falls { S.faults src.old ≤ S.faults src.new }
+    ensures never_falls { NeverFell (S.told src.old) (S.told src.new) }
 
-    ensures given { IfOk result (λ bytes. S.left src.old ≡ before bytes.items (S.left src.new)) }
-    ensures ended { OnOk result (IfSome (S.left src.new) (λ rest. rest ≡ [])) }
+    ensures given { IfOk result (λ bytes. GaveWhole bytes.items (S.told src.old) (S.told src.new)) }
     ensures within { IfOk result (λ bytes. length bytes.items ≤ max) }
     ensures too_long { IsErrOf result ReadAllFault.TooLong →
-        Gave (λ count. count ≡ max + 1) (S.left src.old) (S.left src.new) }
+        GaveSome (λ count. count ≡ max + 1) (S.told src.old) (S.told src.new) }
     ensures read_fault { IsErrOf result ReadAllFault.ReadFault →
-        Gave (λ count. count ≤ max) (S.left src.old) (S.left src.new) }
+        GaveSome (λ count. count ≤ max) (S.told src.old) (S.told src.new) }
     ensures no_memory { IsErrOf result ReadAllFault.NoMemory →
-        Gave (λ count. (0 < count) × (count ≤ max)) (S.left src.old) (S.left src.new) }
+        GaveSome (λ count. (0 < count) × (count ≤ max)) (S.told src.old) (S.told src.new) }
     ensures fault { IsErrOf result ReadAllFault.ReadFault →
-        Rose (S.faults src.old) (S.faults src.new) }
+        CountRose (S.told src.old) (S.told src.new) }
 
     // Where the source tells its bytes, these are all of them, and none are left.
-    ensures whole { IfOk result (λ bytes. IfSome (S.left src.old) (λ all.
-        (bytes.items ≡ all) × (S.left src.new ≡ Some []))) }
+    ensures whole { IfOk result (λ bytes. IfSome (S.told src.old).bytes (λ all.
+        (bytes.items ≡ all) × ((S.told src.new).bytes ≡ Some []))) }
 
     // And here there are more than `max`.
-    ensures more { IsErrOf result ReadAllFault.TooLong → IfSome (S.left src.old) (λ all.
-        (max < length all) × (S.left src.new ≡ Some (drop (max + 1) all))) }
+    ensures more { IsErrOf result ReadAllFault.TooLong → IfSome (S.told src.old).bytes (λ all.
+        (max < length all) × ((S.told src.new).bytes ≡ Some (drop (max + 1) all))) }
 {
     let mut buf = [0; PIECE];
     let mut bytes = Vec::new(alloc);
@@ -65,24 +64,24 @@ fn read_piece<S: Source>(
     requires one_piece { length buf.old ≤ 4096 }
     requires within { length bytes.old.items ≤ max }
 
-    ensures never_falls { S.faults src.old ≤ S.faults src.new }
+    ensures never_falls { NeverFell (S.told src.old) (S.told src.new) }
 
     ensures given { OnOk result
-        (before bytes.old.items (S.left src.old) ≡ before bytes.new.items (S.left src.new)) }
+        (before bytes.old.items (S.told src.old).bytes ≡ before bytes.new.items (S.told src.new).bytes) }
     ensures within { OnOk result (length bytes.new.items ≤ max) }
     ensures longer { IfOk result (λ more.
         more ≡ true → length bytes.old.items < length bytes.new.items) }
     ensures ended { IfOk result (λ more.
-        more ≡ false → IfSome (S.left src.new) (λ rest. rest ≡ [])) }
+        more ≡ false → IfSome (S.told src.new).bytes (λ rest. rest ≡ [])) }
 
     ensures too_long { IsErrOf result ReadAllFault.TooLong → Gave (λ count. count ≡ max + 1)
-        (before bytes.old.items (S.left src.old)) (S.left src.new) }
+        (before bytes.old.items (S.told src.old).bytes) (S.told src.new).bytes }
     ensures read_fault { IsErrOf result ReadAllFault.ReadFault → Gave (λ count. count ≤ max)
-        (before bytes.old.items (S.left src.old)) (S.left src.new) }
+        (before bytes.old.items (S.told src.old).bytes) (S.told src.new).bytes }
     ensures no_memory { IsErrOf result ReadAllFault.NoMemory → Gave (λ count. (0 < count) × (count ≤ max))
-        (before bytes.old.items (S.left src.old)) (S.left src.new) }
+        (before bytes.old.items (S.told src.old).bytes) (S.told src.new).bytes }
     ensures fault { IsErrOf result ReadAllFault.ReadFault →
-        Rose (S.faults src.old) (S.faults src.new) }
+        CountRose (S.told src.old) (S.told src.new) }
 {
     let room = max - bytes.len();
     let asked = buf.len().min(room + 1);
@@ -105,13 +104,12 @@ fn read_piece<S: Source>(
 /// Writes all the bytes: each write offers those not yet taken. The first write that fails ends it,
 /// with the number of bytes taken before.
 pub fn write_all<O: Sink>(out: &mut O, bytes: &[u8]) -> Result<(), usize>
-    ensures never_falls { O.faults out.old ≤ O.faults out.new }
+    ensures never_falls { NeverFell (O.told out.old) (O.told out.new) }
 
-    ensures all_taken { OnOk result (O.taken out.new ≡ after (O.taken out.old) bytes.now) }
-    ensures front_taken { IfErr result (λ n.
-        O.taken out.new ≡ after (O.taken out.old) (take n bytes.now)) }
+    ensures all_taken { OnOk result (Took bytes.now (O.told out.old) (O.told out.new)) }
+    ensures front_taken { IfErr result (λ n. Took (take n bytes.now) (O.told out.old) (O.told out.new)) }
     ensures some_left { IfErr result (λ n. n < length bytes.now) }
-    ensures fault { IfErr result (λ _. Rose (O.faults out.old) (O.faults out.new)) }
+    ensures fault { IfErr result (λ _. CountRose (O.told out.old) (O.told out.new)) }
 
     // With no bytes no write is called.
     ensures idle { length bytes.now ≡ 0 → out.new ≡ out.old }

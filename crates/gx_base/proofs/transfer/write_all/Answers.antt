@@ -11,7 +11,7 @@ loop-done-preserved g c = record {
   counted = omega (arith, c.in-Ok.ensures.never_falls);
   front =
       c.in-Ok.ensures.given
-      ∙ ap (λ rest. after (g.O.Sink.taken c.loop-done.out) (take c.in-Ok.count rest)) (take_rest c.args.bytes.now c.loop-done.done)
+      ∙ ap (λ rest. after (g.O.Sink.told c.loop-done.out).bytes (take c.in-Ok.count rest)) (take_rest c.args.bytes.now c.loop-done.done)
       ∙ taken_front _ _ c.loop-done.done c.in-Ok.count c.args.bytes.now c.loop-done.invariant.front;
   untouched = λ none. absurd (omega (arith, c.in-Ok.ensures.some));
 }

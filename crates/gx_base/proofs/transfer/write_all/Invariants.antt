@@ -1,12 +1,12 @@
 use Rattle.std.proofs.Common.{length, ◌-◌, ◌≡◌, ◌≤◌, take}
-use Rattle.gx_base.specs.Stream.{after}
+use Rattle.gx_base.specs.Stream.{NeverFell, Took}
 use Rattle.gx_base.proofs.transfer.write_all.Given as goal
 
 abbrev pub invariant-loop-done : goal.invariant-loop-done
 invariant-loop-done g l = record {
   within : l.done ≤ length l.bytes;
-  counted : g.O.Sink.faults l.initial.out ≤ g.O.Sink.faults l.out;
-  front : g.O.Sink.taken l.out ≡ after (g.O.Sink.taken l.initial.out) (take l.done l.bytes);
+  counted : NeverFell (g.O.Sink.told l.initial.out) (g.O.Sink.told l.out);
+  front : Took (take l.done l.bytes) (g.O.Sink.told l.initial.out) (g.O.Sink.told l.out);
   untouched : l.done ≡ 0 → l.out ≡ l.initial.out;
 }
 

@@ -1,0 +1,9 @@
+mod WordLists
+mod Numerals
+mod LinePieces
+mod MapEntries
+mod StrippedBack
+mod Verdicts
+mod Finding
+mod Prints
+mod Running

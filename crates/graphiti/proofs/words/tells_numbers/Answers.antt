@@ -1,5 +1,0 @@
-use Rattle.graphiti.proofs.Numerals.{tells_numbers}
-use Rattle.graphiti.proofs.words.tells_numbers.Goals as goal
-
-pub returns : goal.returns
-returns c = tells_numbers c.numerals_tell_numbers.ensures
