@@ -17,16 +17,16 @@ use Rattle.fun_expr.specs.declared.expr.Expr.{Expr}
 use Rattle.fun_expr.specs.declared.expr.Expr.TheVariants.{Field, Lit, Apply}
 
 -- the first byte of a text, and what it is not
-record Begins (text : List ℕ) : Type 0 where
-  byte : ℕ
-  rest : List ℕ
-  is : text ≡ byte ∷ rest
-  no_digit : is_ascii_digit byte ≡ false
-  no_hash : (byte == 35) ≡ false
-  no_dash : (byte == 45) ≡ false
+pub record Begins (text : List ℕ) : Type 0 where
+  pub byte : ℕ
+  pub rest : List ℕ
+  pub is : text ≡ byte ∷ rest
+  pub no_digit : is_ascii_digit byte ≡ false
+  pub no_hash : (byte == 35) ≡ false
+  pub no_dash : (byte == 45) ≡ false
 
 -- the name of an operator begins with a letter
-word_begins : (op : Op) → Begins (op_word op)
+pub word_begins : (op : Op) → Begins (op_word op)
 word_begins Add = record { byte = 97; rest = 100 ∷ 100 ∷ []; is = refl; no_digit = refl; no_hash = refl; no_dash = refl }
 word_begins Sub = record { byte = 115; rest = 117 ∷ 98 ∷ []; is = refl; no_digit = refl; no_hash = refl; no_dash = refl }
 word_begins Mul = record { byte = 109; rest = 117 ∷ 108 ∷ []; is = refl; no_digit = refl; no_hash = refl; no_dash = refl }
@@ -57,7 +57,7 @@ word_begins Trunc = record { byte = 116; rest = 114 ∷ 117 ∷ 110 ∷ 99 ∷ [
 word_begins Ret = record { byte = 114; rest = 101 ∷ 116 ∷ []; is = refl; no_digit = refl; no_hash = refl; no_dash = refl }
 
 -- and holds no colon
-no_colon : (op : Op) → list_all (λ byte. not (byte == 58)) (op_word op) ≡ true
+pub no_colon : (op : Op) → list_all (λ byte. not (byte == 58)) (op_word op) ≡ true
 no_colon Add = refl
 no_colon Sub = refl
 no_colon Mul = refl
@@ -87,13 +87,13 @@ no_colon Sext = refl
 no_colon Trunc = refl
 no_colon Ret = refl
 
-heads : {A : Type 0} {a b : A} {xs ys : List A} → a ∷ xs ≡ b ∷ ys → (a ≡ b) × (xs ≡ ys)
+pub heads : {A : Type 0} {a b : A} {xs ys : List A} → a ∷ xs ≡ b ∷ ys → (a ≡ b) × (xs ≡ ys)
 heads h = (cc, cc)
 
-abbrev AreDigits : List ℕ → Type 0
+abbrev pub AreDigits : List ℕ → Type 0
 AreDigits word = list_all is_ascii_digit word ≡ true
 
-numeral_digits : (word : List ℕ) → is_numeral word ≡ true → AreDigits word
+pub numeral_digits : (word : List ℕ) → is_numeral word ≡ true → AreDigits word
 numeral_digits [] is = cc
 numeral_digits (x ∷ []) is = grind (arith, nat_tests)
 numeral_digits (x ∷ y ∷ xs) is = grind (arith, nat_tests)
@@ -149,20 +149,20 @@ colon_end (x ∷ word) (y ∷ word') rest rest' a b h =
     (ap (λ z. z ∷ word) (heads h).0 ∙ ap (λ zs. y ∷ zs) r.0, r.1)
 
 -- regrouped texts
-lit_text : (a b c r : List ℕ) → ((a ++ b) ++ c) ++ r ≡ a ++ (b ++ (c ++ r))
+pub lit_text : (a b c r : List ℕ) → ((a ++ b) ++ c) ++ r ≡ a ++ (b ++ (c ++ r))
 lit_text a b c r = simp append_assoc
 
-apply_text : (a b c d e f r : List ℕ) → (((((a ++ b) ++ c) ++ d) ++ e) ++ f) ++ r ≡ a ++ (b ++ (c ++ (d ++ (e ++ (f ++ r)))))
+pub apply_text : (a b c d e f r : List ℕ) → (((((a ++ b) ++ c) ++ d) ++ e) ++ f) ++ r ≡ a ++ (b ++ (c ++ (d ++ (e ++ (f ++ r)))))
 apply_text a b c d e f r = simp append_assoc
 
 -- a numeral begins with a digit
-record Digit (word : List ℕ) : Type 0 where
-  byte : ℕ
-  rest : List ℕ
-  is : word ≡ byte ∷ rest
-  digit : is_ascii_digit byte ≡ true
+pub record Digit (word : List ℕ) : Type 0 where
+  pub byte : ℕ
+  pub rest : List ℕ
+  pub is : word ≡ byte ∷ rest
+  pub digit : is_ascii_digit byte ≡ true
 
-numeral_begins : (word : List ℕ) → is_numeral word ≡ true → Digit word
+pub numeral_begins : (word : List ℕ) → is_numeral word ≡ true → Digit word
 numeral_begins [] h = absurd cc
 numeral_begins (x ∷ word) h = record { byte = x; rest = word; is = refl; digit = (and_parts (is_ascii_digit x) (list_all is_ascii_digit word) (numeral_digits (x ∷ word) h)).0 }
 
@@ -204,7 +204,7 @@ semicolons = record { first = refl; second = refl; differ = λ h. cc }
 dash_hash : (word r more : List ℕ) → 45 ∷ r ≡ (codes "#" ++ word) ++ more → ⊥
 dash_hash word r more h = let e : ◌≡◌ {A = ℕ} 45 35 = (heads h).0 in cc
 
-dash_digit : (byte : ℕ) → is_ascii_digit byte ≡ true → 45 ≡ byte → ⊥
+pub dash_digit : (byte : ℕ) → is_ascii_digit byte ≡ true → 45 ≡ byte → ⊥
 dash_digit byte d e = let no : is_ascii_digit 45 ≡ true = ap is_ascii_digit e ∙ d in cc
 
 dash_word : (word : List ℕ) (n : ℕ) (more r : List ℕ) → Numeral word n → 45 ∷ r ≡ word ++ more → ⊥
