@@ -148,9 +148,12 @@ first_of _ _ (spells_lit first second width number n m) =
 first_of _ _ (spells_apply op word width pieces args n some each) =
     let b = word_begins op in
     let more = codes ":" ++ (word ++ (codes "(" ++ (join_with_byte 44 pieces ++ (codes ")" ++ [])))) in
-    record { byte = b.byte; rest = b.rest ++ more;
+    record {
+      byte = b.byte;
+      rest = b.rest ++ more;
       is = sym (append-nil (op_word op ++ codes ":" ++ word ++ codes "(" ++ join_with_byte 44 pieces ++ codes ")")) ∙ apply_text (op_word op) (codes ":") word (codes "(") (join_with_byte 44 pieces) (codes ")") [] ∙ ap (λ w. w ++ more) b.is;
-      no_dash = b.no_dash }
+      no_dash = b.no_dash;
+    }
 
 first_joined : (p : List ℕ) (ps : List (List ℕ)) → First p → First (join_with_byte 59 (p ∷ ps))
 first_joined p [] f = f

@@ -29,6 +29,7 @@ digit_more number digit is = by (nat_lt number (2 ^ 64)) refl
   where
     value : digit_value digit ≡ digit - 48
     value = grind (arith, nat_tests)
+
     by : (b : Bool) → nat_lt number (2 ^ 64) ≡ b → with_digit (cond b (Some number) None) digit ≡ in_word (number * 10 + digit_value digit)
     by true e = ap (λ d. in_word (number * 10 + d)) (sym value)
     by false e = let large : 2 ^ 64 ≤ number = grind (arith, nat_tests) in let above : nat_lt (number * 10 + digit_value digit) (2 ^ 64) ≡ false = grind (arith, nat_tests) in sym (ap (λ b. cond b (Some (number * 10 + digit_value digit)) None) above)
@@ -79,6 +80,7 @@ numeral_rest kind k extent parts r first (d ∷ e ∷ ds) number is rest =
   where
     digit_of : (d : ℕ) → is_ascii_digit d ≡ true → (Some (d - 48) ≡ in_word (digit_value d)) × (digit_value d ≡ 0 * 10 + digit_value d)
     digit_of d is = (grind (arith, nat_tests), omega arith)
+
     positive : (d : ℕ) → is_ascii_digit d ≡ true → not (d == 48) ≡ true → 0 < digit_value d
     positive d is some = grind (arith, nat_tests)
 

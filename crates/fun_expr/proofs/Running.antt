@@ -53,7 +53,7 @@ pub record ReadsWhole (r : Reader) (text : List ℕ) (extent : Extent) (parts : 
 same_last : {A : Type 0} {a b : A} → Some a ≡ Some b → a ≡ b
 same_last e = cc
 
-not_none : (bytes : List ℕ) (last : Reader) → reads None bytes ≡ Some last → ⊥
+pub not_none : (bytes : List ℕ) (last : Reader) → reads None bytes ≡ Some last → ⊥
 not_none bytes last h = let e = none_reads bytes in cc
 
 scans_on : (r last : Reader) (at byte : ℕ) (bytes : List ℕ) (o : Option State) → ((s : Reader) (k : ℕ) → reads (Some s) bytes ≡ Some last → scanned s.at s.extent k bytes ≡ Ok last.extent) →

@@ -175,6 +175,7 @@ back_behind zero byte s r e h = by (chosen (byte == 59) (leads Expression 0) (co
         let o = led Spaced 0 s r p.1 h in
         record { pieces = []; es = []; rest = o.rest; spell = no_more; is = ap (λ b. b ∷ r) (eqb-true byte 32 p.0) ∙ ap (λ x. 32 ∷ x) o.is; follows = o.outs }
     second (inr p) = absurd (never s p.1)
+
     by : (((byte == 59) ≡ true) × (leads Expression 0 ≡ Some s)) ⊎ (((byte == 59) ≡ false) × (cond (byte == 32) (leads Spaced 0) None ≡ Some s)) → Behind 0 (byte ∷ r)
     by (inl p) = let x = led Expression 0 s r p.1 h in more_pieces 59 (32 ∷ 45 ∷ 62 ∷ []) OutsRest byte x.piece x.e r x.rest (eqb-true byte 59 p.0) x.spell x.is x.follows
     by (inr p) = second (chosen (byte == 32) (leads Spaced 0) None (Some s) p.1)
@@ -185,6 +186,7 @@ back_behind (suc k) byte s r e h = by (chosen (byte == 44) (leads Expression (su
         let o = led Closed k s r p.1 h in
         record { pieces = []; es = []; rest = r; spell = no_more; is = ap (λ b. b ∷ r) (eqb-true byte 41 p.0); follows = o }
     second (inr p) = absurd (never s p.1)
+
     by : (((byte == 44) ≡ true) × (leads Expression (suc k) ≡ Some s)) ⊎ (((byte == 44) ≡ false) × (cond (byte == 41) (leads Closed k) None ≡ Some s)) → Behind (suc k) (byte ∷ r)
     by (inl p) = let x = led Expression (suc k) s r p.1 h in more_pieces 44 (41 ∷ []) (Behind k) byte x.piece x.e r x.rest (eqb-true byte 44 p.0) x.spell x.is x.follows
     by (inr p) = second (chosen (byte == 41) (leads Closed k) None (Some s) p.1)
@@ -244,6 +246,7 @@ back_digits kind value k byte s r e h = by (chosen (is_ascii_digit byte) (numera
     one_more digit (inr p) =
         let d = led (Digits kind (with_digit value byte)) k s r p.1 h in
         record { digits = byte ∷ d.digits; rest = d.rest; are = rw (digit, d.are) refl; none = λ z. absurd cc; is = ap (λ x. byte ∷ x) d.is; ended = d.ended }
+
     by : ((is_ascii_digit byte ≡ true) × (numeral_on kind value k byte ≡ Some s)) ⊎ ((is_ascii_digit byte ≡ false) × (ended kind value k byte ≡ Some s)) → DigitsRest kind (is_zero value) k (byte ∷ r)
     by (inl p) = one_more p.0 (chosen (is_zero value) None (leads (Digits kind (with_digit value byte)) k) (Some s) p.1)
     by (inr p) = record { digits = []; rest = byte ∷ r; are = refl; none = λ z. refl; is = refl; ended = back_ended kind value k byte s r p.1 h }
@@ -334,9 +337,9 @@ operator_rest k r n =
       rest = last.rest;
       spell = spells_apply n.op width.word width.number (args.piece ∷ last.pieces) (args.e ∷ last.es) width.spell (omega arith) (and_more args.piece args.e last.pieces last.es args.spell last.spell);
       is = n.is ∙ ap (λ w. w ++ 58 ∷ n.rest) (sym n.name)
-        ∙ ap (λ x. op_word n.op ++ 58 ∷ x) (width.is ∙ ap (λ x. width.word ++ x) (width.ended.is ∙ ap (λ x. 40 ∷ x)
-        (args.is ∙ ap (λ x. args.piece ++ x) last.is ∙ args_text args.piece (pieces_text 44 last.pieces) last.rest ∙ ap (λ j. j ++ (codes ")" ++ last.rest)) (sym (join_pieces 44 args.piece last.pieces)))))
-        ∙ sym (apply_text (op_word n.op) (codes ":") width.word (codes "(") joined (codes ")") last.rest);
+          ∙ ap (λ x. op_word n.op ++ 58 ∷ x) (width.is ∙ ap (λ x. width.word ++ x) (width.ended.is ∙ ap (λ x. 40 ∷ x)
+          (args.is ∙ ap (λ x. args.piece ++ x) last.is ∙ args_text args.piece (pieces_text 44 last.pieces) last.rest ∙ ap (λ j. j ++ (codes ")" ++ last.rest)) (sym (join_pieces 44 args.piece last.pieces)))))
+          ∙ sym (apply_text (op_word n.op) (codes ":") width.word (codes "(") joined (codes ")") last.rest);
       follows = last.follows;
     }
 
@@ -347,6 +350,7 @@ back_expression k byte s r e h =
     second : ((is_ascii_digit byte ≡ true) × (leads (Digits LiteralWidth (Some (byte - 48))) k ≡ Some s)) ⊎ ((is_ascii_digit byte ≡ false) × (named 1 k (first_named [] byte) ≡ Some s)) → ExprRest k (byte ∷ r)
     second (inl p) = literal_rest k (byte ∷ r) (begun LiteralWidth k byte r p.0 (led (Digits LiteralWidth (Some (byte - 48))) k s r p.1 h))
     second (inr p) = operator_rest k (byte ∷ r) (back_letter [] k byte s r (first_named [] byte) refl p.1 h)
+
     by : (((byte == 35) ≡ true) × (leads (Numeral Place) k ≡ Some s)) ⊎ (((byte == 35) ≡ false) × (cond (is_ascii_digit byte) (leads (Digits LiteralWidth (Some (byte - 48))) k) (named 1 k (first_named [] byte)) ≡ Some s)) → ExprRest k (byte ∷ r)
     by (inl p) = field_rest k byte r (eqb-true byte 35 p.0) (led (Numeral Place) k s r p.1 h)
     by (inr p) = second (chosen (is_ascii_digit byte) (leads (Digits LiteralWidth (Some (byte - 48))) k) (named 1 k (first_named [] byte)) (Some s) p.1)
@@ -427,13 +431,16 @@ with_binds p ps rest = simp append_assoc
 pub text_from : (text : List ℕ) → Rest Start 0 text → IsText text
 text_from text (inr t) = ([], t.outs.outs, record { pieces = []; words = t.outs.words; spell_binds = no_more; spell_outs = t.outs.spell; is = t.is ∙ ap (λ x. 45 ∷ 62 ∷ x) t.outs.is })
 text_from text (inl x) =
-    let f = x.follows in
-    (x.e ∷ f.es, f.follows.outs, record {
-      pieces = x.piece ∷ f.pieces;
-      words = f.follows.words;
-      spell_binds = and_more x.piece x.e f.pieces f.es x.spell f.spell;
-      spell_outs = f.follows.spell;
-      is = x.is ∙ ap (λ y. x.piece ++ y) f.is ∙ with_binds x.piece (pieces_text 59 f.pieces) f.rest
-        ∙ ap (λ j. (j ++ codes " ") ++ codes "->" ++ f.rest) (sym (join_pieces 59 x.piece f.pieces))
-        ∙ ap (λ y. joined_binds (x.piece ∷ f.pieces) ++ codes "->" ++ y) f.follows.is;
-    })
+    let f = x.follows in (
+      x.e ∷ f.es,
+      f.follows.outs,
+      record {
+        pieces = x.piece ∷ f.pieces;
+        words = f.follows.words;
+        spell_binds = and_more x.piece x.e f.pieces f.es x.spell f.spell;
+        spell_outs = f.follows.spell;
+        is = x.is ∙ ap (λ y. x.piece ++ y) f.is ∙ with_binds x.piece (pieces_text 59 f.pieces) f.rest
+            ∙ ap (λ j. (j ++ codes " ") ++ codes "->" ++ f.rest) (sym (join_pieces 59 x.piece f.pieces))
+            ∙ ap (λ y. joined_binds (x.piece ∷ f.pieces) ++ codes "->" ++ y) f.follows.is;
+      },
+    )

@@ -1,7 +1,5 @@
 //! Reading functions.
-ghost use Rattle.std.specs.Prelude.{◌≡◌, ◌^◌, ◌<◌, ◌+◌, IfOk, OnOk, length};
 ghost use Rattle.port_types.specs.Shape.{IsShape};
-ghost use Rattle.fun_expr.specs.Function.{FunOk};
 ghost use Rattle.fun_expr.specs.FunReading.{Reads};
 ghost use Rattle.fun_expr.specs.Judging.{Judged};
 
@@ -11,12 +9,14 @@ use crate::expr::Expr;
 use crate::fault::FunFault;
 use crate::fun::Fun;
 use crate::scan::scan;
+use op_table::{tests_are_the_table, typed_widths_are_few};
 use port_types::{Items, Shape};
 use std::alloc::Global;
 
 /// The function with these parts, or what is wrong with it: a place that is not there, or else its types.
 fn judged(input: &Shape, binds: Vec<Expr>, outs: Vec<usize>) -> Result<Fun, FunFault>
-    ensures { Judged input.now binds.items outs.items result }
+    ensures shape { IsShape input.now }
+    ensures verdict { Judged input.now binds.items outs.items result }
 {
     if !are_places_there(input.widths().len(), &binds, &outs) {
         return Err(FunFault::FunIndex);
@@ -38,6 +38,8 @@ fn judged(input: &Shape, binds: Vec<Expr>, outs: Vec<usize>) -> Result<Fun, FunF
 pub fn read_fun(alloc: Global, text: &[u8], input: &Shape) -> Result<Fun, FunFault>
     ensures { Reads text.now input.now result }
 {
+    tests_are_the_table();
+    typed_widths_are_few();
     let extent = match scan(text) {
         Ok(extent) => extent,
         Err(byte) => return Err(FunFault::FunSyntax(byte)),
