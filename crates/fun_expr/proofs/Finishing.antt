@@ -17,6 +17,7 @@ use Rattle.fun_expr.specs.Counting.{counted, go_on, nothing_counted, scanned, wi
 use Rattle.fun_expr.specs.Building.{Parts, byte_built, no_parts}
 use Rattle.fun_expr.specs.FunGrammar.{IsFunText}
 use Rattle.fun_expr.specs.FunReading.{CanGoOn, GoesOnTo, IsNoText}
+use Rattle.fun_expr.specs.Laws.{TextOrFault}
 use Rattle.fun_expr.proofs.Running.{Reader, reader, follow, after, reads, reads-append, scans_whole, not_none, ReadsWhole}
 use Rattle.fun_expr.proofs.NumeralRuns.{name_rest}
 use Rattle.fun_expr.proofs.Complete.{complete}
@@ -184,3 +185,11 @@ goes_on_to text place h =
       front = subst (λ n. CanGoOn (take n text)) here (can_go_on (take s.count text) s.last s.is);
       longest = λ longer lt le go. let w = complete (take longer text ++ go.0) go.1 go.2 go.3 in s.longest go.0 longer (omega (arith, here, lt)) le w.last w.is;
     }
+
+-- a text is one of the grammar, or has a fault
+by_scan : (text : List ℕ) (r : Result Extent ℕ) → scanned begin nothing_counted 0 text ≡ r → IsText text ⊎ ((byte : ℕ) × IsNoText text × GoesOnTo text byte)
+by_scan text (Ok x) h = inl (scanned_text text x h)
+by_scan text (Err place) h = inr (place, no_text text place h, goes_on_to text place h)
+
+pub text_or_fault : TextOrFault
+text_or_fault text = by_scan text (scanned begin nothing_counted 0 text) refl

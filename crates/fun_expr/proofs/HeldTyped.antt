@@ -26,7 +26,7 @@ use Rattle.fun_expr.proofs.Held.{held, held-field, held-lit, held-apply}
 use Rattle.fun_expr.proofs.Complete.{held_out}
 
 -- numbers that the code can hold
-small_word : (n : ℕ) → n < 2 ^ 64 → in_word n ≡ Some n
+pub small_word : (n : ℕ) → n < 2 ^ 64 → in_word n ≡ Some n
 small_word n lt = let yes : nat_lt n (2 ^ 64) ≡ true = grind (arith, nat_tests) in ap (λ b. cond b (Some n) None) yes
 
 large_word : (n : ℕ) → 2 ^ 64 ≤ n → in_word n ≡ None
@@ -82,7 +82,7 @@ args_typed' g f (e ∷ args) ins hs h =
 lit_held : (width number : ℕ) → width < 256 → number < 2 ^ 64 → held (Lit width number) ≡ Lit width number
 lit_held width number w n = held-lit width number ∙ ap (λ v. literal (held_width (in_word width)) v) (small_word number n) ∙ ap (λ x. Lit x number) (small_width width w)
 
-lit_fits : (width number : ℕ) → width ≤ 64 → number < 2 ^ width → number < 2 ^ 64
+pub lit_fits : (width number : ℕ) → width ≤ 64 → number < 2 ^ width → number < 2 ^ 64
 lit_fits width number narrow fits = omega (arith, fits, pow_mono narrow)
 
 module _ (tested : WidthsAreTested) (few : TypedWidths) where
