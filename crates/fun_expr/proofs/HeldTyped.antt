@@ -29,9 +29,6 @@ use Rattle.fun_expr.proofs.Complete.{held_out}
 pub small_word : (n : ℕ) → n < 2 ^ 64 → in_word n ≡ Some n
 small_word n lt = let yes : nat_lt n (2 ^ 64) ≡ true = grind (arith, nat_tests) in ap (λ b. cond b (Some n) None) yes
 
-large_word : (n : ℕ) → 2 ^ 64 ≤ n → in_word n ≡ None
-large_word n le = let never : nat_lt n (2 ^ 64) ≡ false = grind (arith, nat_tests) in ap (λ b. cond b (Some n) None) never
-
 small_width : (n : ℕ) → n < 256 → held_width (in_word n) ≡ n
 small_width n lt =
     let yes : nat_lt n 256 ≡ true = grind (arith, nat_tests) in
