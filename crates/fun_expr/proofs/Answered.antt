@@ -1,12 +1,12 @@
 -- What is answered of a text is what it is read as.
-use Rattle.std.proofs.Common.{◌≡◌, ◌<◌, ◌≤◌, ◌+◌, ◌-◌, ◌^◌, ◌↔◌, ℕ, List, [], ◌∷◌, length, map, Some, Ok, Err, Result, refl, ap, sym, ◌∙◌, subst, arith}
+use Rattle.std.proofs.Common.{◌≡◌, ◌<◌, ◌≤◌, ◌+◌, ◌-◌, ◌^◌, ℕ, List, [], ◌∷◌, length, map, Ok, Err, Result, ap, sym, ◌∙◌, subst, arith}
 use Rattle.op_table.specs.Laws.{WidthsAreTested, TypedWidths}
 use Rattle.port_types.specs.Shape.{IsShape}
-use Rattle.fun_expr.specs.Each.{Each, total, largest}
-use Rattle.fun_expr.specs.Expr.{expr_size, expr_depth}
+use Rattle.fun_expr.specs.Each.{Each, largest}
+use Rattle.fun_expr.specs.Expr.{expr_depth}
 use Rattle.fun_expr.specs.Function.{Function, FunTyped, FunOk, fun_size}
 use Rattle.fun_expr.specs.FunGrammar.{IsFunText}
-use Rattle.fun_expr.specs.FunReading.{function, IsWithin, PlacesThere, TextWith, Reads}
+use Rattle.fun_expr.specs.FunReading.{function, IsWithin, TextWith, Reads}
 use Rattle.fun_expr.specs.Judging.{Judged}
 use Rattle.fun_expr.specs.declared.expr.Expr.{Expr}
 use Rattle.fun_expr.specs.declared.fault.FunFault.{FunFault}
@@ -16,7 +16,7 @@ use Rattle.fun_expr.specs.declared.builder.Frame.{Frame}
 use Rattle.fun_expr.specs.declared.state.Spot.TheVariants.{Start}
 use Rattle.fun_expr.specs.Machine.{begin}
 use Rattle.fun_expr.specs.Counting.{nothing_counted, scanned}
-use Rattle.fun_expr.specs.Building.{Parts, no_parts, built}
+use Rattle.fun_expr.specs.Building.{no_parts, built}
 use Rattle.fun_expr.proofs.Parts.{fields_count}
 use Rattle.fun_expr.proofs.Printed.{binds_few}
 use Rattle.fun_expr.proofs.Held.{held}

@@ -1,5 +1,5 @@
 -- A reader goes over each text of the grammar, counts its expressions and builds them.
-use Rattle.std.proofs.Common.{◌≡◌, ◌==◌, ◌<◌, ◌≤◌, ◌+◌, max, ℕ, zero, suc, List, [], ◌∷◌, ◌++◌, Bool, true, false, not, cond, length, map, Option, Some, None, refl, ap, sym, ◌∙◌, arith, append_assoc}
+use Rattle.std.proofs.Common.{◌≡◌, ◌==◌, ◌≤◌, ◌+◌, max, ℕ, suc, List, [], ◌∷◌, ◌++◌, true, false, not, cond, length, map, Option, Some, refl, ap, sym, ◌∙◌, arith, append_assoc}
 use Rattle.std.specs.Prelude.{codes}
 use Rattle.std.specs.Char.{is_ascii_digit}
 use Rattle.std.specs.List.{join_with_byte, flat_map}
@@ -12,23 +12,20 @@ use Rattle.fun_expr.specs.Each.{total, largest}
 use Rattle.fun_expr.specs.Expr.{expr_size, expr_depth}
 use Rattle.fun_expr.specs.declared.expr.Expr.{Expr}
 use Rattle.fun_expr.specs.declared.expr.Expr.TheVariants.{Field, Lit, Apply}
-use Rattle.fun_expr.specs.declared.state.Number.{Number}
-use Rattle.fun_expr.specs.declared.state.Number.TheVariants.{Place, LiteralWidth, Literal, OperatorWidth, Out}
-use Rattle.fun_expr.specs.declared.state.Spot.{Spot}
-use Rattle.fun_expr.specs.declared.state.Spot.TheVariants.{Start, Expression, Name, Numeral, Digits, Closed, Spaced, Dash, Arrow, Gap}
-use Rattle.fun_expr.specs.declared.state.State.{State}
+use Rattle.fun_expr.specs.declared.state.Number.TheVariants.{Place, Literal, OperatorWidth, Out}
+use Rattle.fun_expr.specs.declared.state.Spot.TheVariants.{Start, Expression, Digits, Closed, Spaced, Dash, Arrow, Gap}
 use Rattle.fun_expr.specs.declared.scan.Extent.{Extent}
 use Rattle.fun_expr.specs.declared.builder.Frame.{Frame}
-use Rattle.fun_expr.specs.Machine.{state, leads, behind, expression, step, numeral_on, held_width, is_whole, begin}
+use Rattle.fun_expr.specs.Machine.{leads, behind, expression, numeral_on, held_width}
 use Rattle.fun_expr.specs.Counting.{with_expression, nothing_counted}
-use Rattle.fun_expr.specs.Building.{Parts, held_place, literal, add, added, closed, closing, end_built, no_parts}
+use Rattle.fun_expr.specs.Building.{Parts, held_place, literal, add, added, closing, no_parts}
 use Rattle.fun_expr.specs.FunGrammar.{Spells, SpellEach, spells_field, spells_lit, spells_apply, no_more, and_more, Numerals, joined_binds, IsFunText}
 use Rattle.fun_expr.specs.FunGrammar as grammar
-use Rattle.fun_expr.proofs.Trees.{size-field, size-lit, size-apply, depth-field, depth-lit, depth-apply}
+use Rattle.fun_expr.proofs.Trees.{size-field, size-lit, depth-field, depth-lit, depth-apply}
 use Rattle.fun_expr.proofs.Sizes.{size_of_apply}
-use Rattle.fun_expr.proofs.OneText.{lit_text, apply_text, numeral_begins, word_begins, dash_digit}
+use Rattle.fun_expr.proofs.OneText.{lit_text, apply_text, numeral_begins, word_begins}
 use Rattle.fun_expr.proofs.Held.{held, held-field, held-lit, held-apply}
-use Rattle.fun_expr.proofs.Running.{Reader, reader, follow, after, reads, moves, ReadsWhole}
+use Rattle.fun_expr.proofs.Running.{Reader, reader, follow, reads, ReadsWhole}
 use Rattle.fun_expr.proofs.NumeralRuns.{numeral_run, literal_run, name_run}
 
 -- what is counted of expressions within so many operators

@@ -1,24 +1,20 @@
 -- From each state some bytes lead to an end, and so the place of a fault is the longest front with which a text of the grammar begins.
-use Rattle.std.proofs.Common.{◌≡◌, ◌==◌, ◌<◌, ◌≤◌, ◌+◌, ◌⊎◌, inl, inr, ℕ, zero, suc, List, [], ◌∷◌, ◌++◌, Bool, true, false, cond, length, take, drop, Option, Some, None, Result, Ok, Err, refl, ap, sym, ◌∙◌, subst, arith, append_assoc}
-use Rattle.std.specs.Prelude.{codes}
-use Rattle.std.proofs.lemmas.List.{take-append-drop, append-nil}
+use Rattle.std.proofs.Common.{◌≡◌, ◌<◌, ◌≤◌, ◌+◌, ◌⊎◌, inl, inr, ℕ, zero, suc, List, [], ◌∷◌, ◌++◌, Bool, true, false, cond, length, take, drop, Option, Some, None, Result, Ok, Err, refl, ap, sym, ◌∙◌, subst, arith}
+use Rattle.std.proofs.lemmas.List.{take-append-drop}
 use Rattle.op_table.specs.declared.op.Op.{Op}
 use Rattle.op_table.specs.Operator.{op_word}
-use Rattle.port_types.specs.Numeral.{in_word}
-use Rattle.fun_expr.specs.declared.expr.Expr.{Expr}
 use Rattle.fun_expr.specs.declared.state.Number.{Number}
 use Rattle.fun_expr.specs.declared.state.Number.TheVariants.{Place, LiteralWidth, Literal, OperatorWidth, Out}
 use Rattle.fun_expr.specs.declared.state.Spot.{Spot}
 use Rattle.fun_expr.specs.declared.state.Spot.TheVariants.{Start, Expression, Name, Numeral, Digits, Closed, Spaced, Dash, Arrow, Gap}
 use Rattle.fun_expr.specs.declared.state.State.{State}
 use Rattle.fun_expr.specs.declared.scan.Extent.{Extent}
-use Rattle.fun_expr.specs.Machine.{state, step, is_whole, begin, held_width}
+use Rattle.fun_expr.specs.Machine.{step, is_whole, begin, held_width}
 use Rattle.fun_expr.specs.Counting.{counted, go_on, nothing_counted, scanned, with_expression}
 use Rattle.fun_expr.specs.Building.{Parts, byte_built, no_parts}
-use Rattle.fun_expr.specs.FunGrammar.{IsFunText}
 use Rattle.fun_expr.specs.FunReading.{CanGoOn, GoesOnTo, IsNoText}
 use Rattle.fun_expr.specs.Laws.{TextOrFault}
-use Rattle.fun_expr.proofs.Running.{Reader, reader, follow, after, reads, reads-append, scans_whole, not_none, ReadsWhole}
+use Rattle.fun_expr.proofs.Running.{Reader, reader, after, reads, reads-append, scans_whole, not_none}
 use Rattle.fun_expr.proofs.NumeralRuns.{name_rest}
 use Rattle.fun_expr.proofs.Complete.{complete}
 use Rattle.fun_expr.proofs.Sound.{IsText, sound, text_from}

@@ -1,5 +1,5 @@
 -- Expressions with the numbers that the code can hold.
-use Rattle.std.proofs.Common.{◌≡◌, ℕ, ◌^◌, ◌<◌, ◌≤◌, List, map, Some}
+use Rattle.std.proofs.Common.{◌≡◌, ℕ, List, map}
 use Rattle.op_table.specs.declared.op.Op.{Op}
 use Rattle.port_types.specs.Numeral.{in_word}
 use Rattle.fun_expr.specs.declared.expr.Expr.{Expr}

@@ -1,6 +1,6 @@
 -- Numbers that the code can't hold are in no typed function, and their places are not there.
-use Rattle.std.proofs.Common.{◌≡◌, ◌<◌, ◌≤◌, ◌+◌, ◌-◌, ◌^◌, ◌↔◌, max, ℕ, List, [], ◌∷◌, ◌++◌, Bool, true, false, cond, length, map, Option, Some, None, refl, ap, sym, ◌∙◌, subst, arith}
-use Rattle.std.specs.Prelude.{nat_lt, slice_get}
+use Rattle.std.proofs.Common.{◌≡◌, ◌<◌, ◌≤◌, ◌+◌, ◌-◌, ◌^◌, ℕ, List, [], ◌∷◌, ◌++◌, Bool, true, false, cond, length, map, Option, Some, None, refl, ap, sym, ◌∙◌, subst, arith}
+use Rattle.std.specs.Prelude.{nat_lt}
 use Rattle.std.proofs.lemmas.Option.{slice_get_within}
 use Rattle.std.proofs.lemmas.List.{length_push}
 use Rattle.std.proofs.lemmas.Bool.Decides.{nat_tests}
@@ -9,10 +9,10 @@ use Rattle.op_table.specs.declared.op.Op.{Op}
 use Rattle.op_table.specs.Table.{is_typed_op}
 use Rattle.op_table.specs.Laws.{WidthsAreTested, TypedWidths}
 use Rattle.port_types.specs.Numeral.{in_word}
-use Rattle.fun_expr.specs.Each.{Each, total, largest}
+use Rattle.fun_expr.specs.Each.{Each, largest}
 use Rattle.fun_expr.specs.Expr.{all_some, expr_width}
-use Rattle.fun_expr.specs.Function.{Function, widths_after, FunTyped, FunOk}
-use Rattle.fun_expr.specs.FunReading.{function, IsWithin, places_bound, PlacesThere}
+use Rattle.fun_expr.specs.Function.{widths_after}
+use Rattle.fun_expr.specs.FunReading.{places_bound, PlacesThere}
 use Rattle.fun_expr.specs.declared.expr.Expr.{Expr}
 use Rattle.fun_expr.specs.declared.expr.Expr.TheVariants.{Field, Lit, Apply}
 use Rattle.fun_expr.specs.Machine.{held_width}

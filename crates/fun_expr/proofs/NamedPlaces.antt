@@ -1,6 +1,6 @@
 -- What a function gives depends on the fields alone that it names.
-use Rattle.std.proofs.Common.{◌≡◌, ◌<◌, ◌≤◌, ◌+◌, ℕ, zero, suc, List, [], ◌∷◌, ◌++◌, map, length, Some, None, refl, ap, sym, ◌∙◌, subst, arith}
-use Rattle.std.specs.Prelude.{slice_get, unwrap_or}
+use Rattle.std.proofs.Common.{◌≡◌, ◌+◌, ℕ, zero, suc, List, [], ◌∷◌, ◌++◌, map, length, refl, ap, sym, ◌∙◌, subst, arith}
+use Rattle.std.specs.Prelude.{slice_get}
 use Rattle.std.specs.List.{zip, flat_map}
 use Rattle.op_table.specs.declared.op.Op.{Op}
 use Rattle.op_table.specs.Value.{op_value}
@@ -10,9 +10,9 @@ use Rattle.fun_expr.specs.Expr.{field_at, expr_value, places_step, places_in}
 use Rattle.fun_expr.specs.Function.{Function, environment, fields_of, fun_value, named_places}
 use Rattle.fun_expr.specs.Laws.{ValueByNames}
 use Rattle.fun_expr.specs.declared.expr.Expr.{Expr}
-use Rattle.fun_expr.specs.declared.expr.Expr.TheVariants.{Field, Lit, Apply}
+use Rattle.fun_expr.specs.declared.expr.Expr.TheVariants.{Field, Apply}
 use Rattle.fun_expr.proofs.Lists.{each_left, each_right, each_map}
-use Rattle.fun_expr.proofs.Trees.{at_field, at_lit, at_apply, induction, value-field, value-lit, value-apply}
+use Rattle.fun_expr.proofs.Trees.{at_field, at_apply, induction, value-field, value-lit, value-apply}
 
 places-field : (place : ℕ) → places_in (Field place) ≡ place ∷ []
 unfolding places_in

@@ -1,27 +1,26 @@
 -- A reader goes over a numeral, and over the name of an operator.
-use Rattle.std.proofs.Common.{◌≡◌, ◌==◌, ◌<◌, ◌≤◌, ◌^◌, ◌+◌, ◌-◌, ◌*◌, ℕ, zero, suc, List, [], ◌∷◌, ◌++◌, Bool, true, false, not, cond, length, take, drop, Option, Some, None, refl, ap, sym, ◌∙◌, subst, arith, append_assoc, add-one}
+use Rattle.std.proofs.Common.{◌≡◌, ◌==◌, ◌<◌, ◌≤◌, ◌^◌, ◌+◌, ◌-◌, ◌*◌, ℕ, List, [], ◌∷◌, ◌++◌, Bool, true, false, not, cond, length, take, Some, None, refl, ap, sym, ◌∙◌, arith, append_assoc}
 use Rattle.std.specs.Prelude.{nat_lt}
 use Rattle.std.specs.Char.{is_ascii_digit, digit_value}
 use Rattle.std.specs.List.{list_all}
-use Rattle.std.specs.Str.Parse.{digits_value, digits_value_after}
+use Rattle.std.specs.Str.Parse.{digits_value_after}
 use Rattle.std.proofs.lemmas.List.{take_at, append-nil}
 use Rattle.std.proofs.lemmas.Bool.{and_parts}
 use Rattle.std.proofs.lemmas.Bool.Decides.{nat_tests}
 use Rattle.op_table.specs.declared.op.Op.{Op}
 use Rattle.op_table.specs.Operator.{op_word}
-use Rattle.port_types.specs.Numeral.{is_numeral, in_word}
+use Rattle.port_types.specs.Numeral.{in_word}
 use Rattle.fun_expr.specs.declared.state.Number.{Number}
-use Rattle.fun_expr.specs.declared.state.Number.TheVariants.{Place, LiteralWidth, Literal, OperatorWidth, Out}
-use Rattle.fun_expr.specs.declared.state.Spot.{Spot}
-use Rattle.fun_expr.specs.declared.state.Spot.TheVariants.{Start, Expression, Name, Numeral, Digits, Closed, Spaced, Dash, Arrow, Gap}
+use Rattle.fun_expr.specs.declared.state.Number.TheVariants.{Place, LiteralWidth, OperatorWidth}
+use Rattle.fun_expr.specs.declared.state.Spot.TheVariants.{Expression, Name, Numeral, Digits}
 use Rattle.fun_expr.specs.declared.scan.Extent.{Extent}
-use Rattle.fun_expr.specs.Machine.{state, leads, step, named, operator, in_name, expression, with_digit, is_zero, numeral_on, ended, first_named, op_named}
+use Rattle.fun_expr.specs.Machine.{state, leads, step, named, operator, in_name, with_digit, is_zero, numeral_on, ended, first_named, op_named}
 use Rattle.fun_expr.specs.Counting.{with_expression}
 use Rattle.fun_expr.specs.Building.{Parts, number_built}
 use Rattle.fun_expr.specs.FunGrammar as grammar
-use Rattle.fun_expr.proofs.OneText.{AreDigits, numeral_digits, heads, word_begins, no_colon}
+use Rattle.fun_expr.proofs.OneText.{AreDigits, numeral_digits, word_begins, no_colon}
 use Rattle.fun_expr.proofs.OpNames.{first_is, first_found, found_by_name}
-use Rattle.fun_expr.proofs.Running.{Reader, reader, after, reads, moves}
+use Rattle.fun_expr.proofs.Running.{Reader, reader, reads, moves}
 
 -- one more digit of a number, which is above 0 where a digit may follow
 digit_more : (number digit : ℕ) → is_ascii_digit digit ≡ true → with_digit (in_word number) digit ≡ in_word (number * 10 + digit_value digit)

@@ -1,5 +1,5 @@
 -- A function has one text.
-use Rattle.std.proofs.Common.{◌≡◌, ◌<◌, ◌≤◌, ◌+◌, ◌^◌, ◌↔◌, ℕ, List, [], ◌∷◌, ◌++◌, map, length, cond, Some, None, refl, ap, sym, ◌∙◌, subst, arith}
+use Rattle.std.proofs.Common.{◌≡◌, ◌<◌, ◌+◌, ◌^◌, ℕ, List, [], ◌∷◌, ◌++◌, map, length, cond, Some, None, refl, ap, sym, ◌∙◌, arith}
 use Rattle.std.specs.Prelude.{codes}
 use Rattle.std.specs.List.{join_with_byte, flat_map}
 use Rattle.std.specs.Str.Parse.{digits_value}
@@ -9,16 +9,15 @@ use Rattle.std.proofs.lemmas.List.{length_push}
 use Rattle.op_table.specs.Operator.{op_word}
 use Rattle.op_table.specs.Table.{is_typed_op}
 use Rattle.op_table.specs.Laws.{WidthsAreTested, TypedWidths}
-use Rattle.port_types.specs.Numeral.{is_numeral, in_word, numeral_value, NumeralsTellNumbers}
+use Rattle.port_types.specs.Numeral.{in_word, NumeralsTellNumbers}
 use Rattle.fun_expr.specs.Each.{Each}
 use Rattle.fun_expr.specs.Expr.{all_some, expr_width}
-use Rattle.fun_expr.specs.Function.{Function, widths_after, FunOk}
-use Rattle.fun_expr.specs.FunText.{expr_text, binds_text, outs_text, fun_text}
+use Rattle.fun_expr.specs.Function.{widths_after}
+use Rattle.fun_expr.specs.FunText.{expr_text, outs_text}
 use Rattle.fun_expr.specs.FunGrammar.{Spells, SpellEach, spells_field, spells_lit, spells_apply, no_more, and_more, Numerals, joined_binds, IsFunText}
 use Rattle.fun_expr.specs.FunGrammar as grammar
 use Rattle.fun_expr.specs.Laws.{FunctionHasOneText}
 use Rattle.fun_expr.specs.declared.expr.Expr.{Expr}
-use Rattle.fun_expr.specs.declared.expr.Expr.TheVariants.{Field, Lit, Apply}
 use Rattle.fun_expr.proofs.Lists.{all_some_cons}
 use Rattle.fun_expr.proofs.Trees.{width-field, width-lit, width-apply}
 use Rattle.fun_expr.proofs.Values.{applied, lit_of}

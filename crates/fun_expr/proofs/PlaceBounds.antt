@@ -1,5 +1,5 @@
 -- How many fields an environment needs for the places of an expression.
-use Rattle.std.proofs.Common.{◌≡◌, ℕ, ◌+◌, ◌≤◌, List, map, ap, sym, ◌∙◌}
+use Rattle.std.proofs.Common.{◌≡◌, ℕ, ◌+◌, List, map, ap, sym, ◌∙◌}
 use Rattle.op_table.specs.declared.op.Op.{Op}
 use Rattle.fun_expr.specs.Each.{largest}
 use Rattle.fun_expr.specs.FunReading.{bound_step, places_bound}

@@ -1,11 +1,11 @@
 -- A reader goes over a text: where it stands, what it counted and what it built.
-use Rattle.std.proofs.Common.{◌≡◌, ◌==◌, ℕ, ◌+◌, List, [], ◌∷◌, ◌++◌, Bool, true, false, cond, Option, Some, None, Result, Ok, Err, refl, ap, sym, ◌∙◌}
+use Rattle.std.proofs.Common.{◌≡◌, ℕ, ◌+◌, List, [], ◌∷◌, ◌++◌, true, cond, Option, Some, None, Ok, Err, refl, ap, sym, ◌∙◌}
 use Rattle.fun_expr.specs.declared.state.Spot.{Spot}
 use Rattle.fun_expr.specs.declared.state.State.{State}
 use Rattle.fun_expr.specs.declared.scan.Extent.{Extent}
-use Rattle.fun_expr.specs.Machine.{state, step, is_whole, begin}
-use Rattle.fun_expr.specs.Counting.{counted, go_on, nothing_counted, scanned}
-use Rattle.fun_expr.specs.Building.{Parts, byte_built, end_built, build_on, no_parts, built}
+use Rattle.fun_expr.specs.Machine.{state, step, is_whole}
+use Rattle.fun_expr.specs.Counting.{counted, go_on, scanned}
+use Rattle.fun_expr.specs.Building.{Parts, byte_built, end_built, build_on, built}
 
 pub record Reader : Type 0 where
   pub at : State

@@ -1,5 +1,5 @@
 -- What is counted while a text is read, and how far it is read.
-use Rattle.std.specs.Prelude.{◌≡◌, ℕ, ◌+◌, ◌==◌, max, Bool, true, false, not, if◌then◌else◌, List, [], ◌∷◌, Option, Some, None, Result, Ok, Err}
+use Rattle.std.specs.Prelude.{ℕ, ◌+◌, ◌==◌, max, Bool, true, false, not, if◌then◌else◌, List, [], ◌∷◌, Option, Some, None, Result, Ok, Err}
 use Rattle.fun_expr.specs.declared.state.Spot.{Spot}
 use Rattle.fun_expr.specs.declared.state.Spot.TheVariants.{Start, Expression}
 use Rattle.fun_expr.specs.declared.state.State.{State}

@@ -1,5 +1,5 @@
 -- A reader of texts, byte by byte: where a byte leads, and which states end a text.
-use Rattle.std.specs.Prelude.{ℕ, zero, suc, ◌+◌, ◌-◌, ◌*◌, ◌^◌, ◌==◌, Bool, true, false, if◌then◌else◌, nat_lt, List, [], ◌∷◌, length, take, Option, Some, None, unwrap_or, find, bytes_eq}
+use Rattle.std.specs.Prelude.{ℕ, zero, suc, ◌+◌, ◌-◌, ◌*◌, ◌==◌, Bool, true, false, if◌then◌else◌, nat_lt, List, [], ◌∷◌, length, take, Option, Some, None, find, bytes_eq}
 use Rattle.std.specs.Char.{is_ascii_digit}
 use Rattle.op_table.specs.declared.op.Op.{Op}
 use Rattle.op_table.specs.Operator.{op_word}

@@ -1,4 +1,4 @@
-use Rattle.std.proofs.Common.{◌≡◌, ap, sym, ◌∙◌, take, min, length}
+use Rattle.std.proofs.Common.{◌≡◌, ap, sym, ◌∙◌, take}
 use Rattle.std.proofs.lemmas.List.{take_min}
 use Rattle.op_table.specs.Operator.{op_word}
 use Rattle.fun_expr.specs.Machine.{step_from, in_name}

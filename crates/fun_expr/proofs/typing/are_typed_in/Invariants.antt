@@ -1,4 +1,4 @@
-use Rattle.std.proofs.Common.{◌≡◌, ◌+◌, take, drop, length}
+use Rattle.std.proofs.Common.{◌≡◌, ◌+◌, take, drop}
 use Rattle.fun_expr.specs.Function.{widths_after}
 use Rattle.fun_expr.proofs.typing.are_typed_in.Given as goal
 
