@@ -1,20 +1,14 @@
 //! An input that was read, whose parts are judged from left to right.
-ghost use Rattle.std.specs.Prelude.{◌≡◌, ◌≢◌, ◌≤◌, ◌+◌, length, IfOk, IsErrOf, Err};
-ghost use Rattle.gx_base.specs.Stream.{NeverFell, CountRose, GaveWhole, GaveSome};
+ghost use Rattle.std.specs.Prelude.{◌≡◌, ◌≤◌, length, IfOk};
 ghost use Rattle.commands.specs.Judged.{Found};
-ghost use Rattle.commands.specs.Ruling.{max_input};
 ghost use Rattle.commands.specs.Parts.{StandsAt, GraphIn, DocumentAt, EndAt, OneGraph};
 
 use crate::refusal::{Refusal, Stop};
 use dot_text::{Doc, DocFault, read_doc, skip_blank};
 use graph_core::Graph;
 use graph_read::{GraphFault, graph_of, has_pure};
-use gx_base::{ReadAllFault, Source, read_all};
 use std::alloc::Global;
 use std::marker::Model;
-
-/// The most bytes of an input.
-const MAX_INPUT: usize = 16_777_216;
 
 /// The bytes of an input, and where the part that comes next begins.
 #[derive(Drop)]
@@ -35,18 +29,11 @@ impl Model for Input {
 }
 
 impl Input {
-    /// Reads a source to its end.
-    pub(crate) fn read<S: Source>(alloc: Global, src: &mut S) -> Result<Input, ReadAllFault>
-        ensures begins { IfOk result (λ input. input.place ≡ 0) }
-        ensures whole { IfOk result (λ input. GaveWhole input.bytes (S.told src.old) (S.told src.new)) }
-        ensures within { IfOk result (λ input. length input.bytes ≤ max_input) }
-        ensures too_long { IsErrOf result ReadAllFault.TooLong → GaveSome (λ count. count ≡ max_input + 1) (S.told src.old) (S.told src.new) }
-        ensures fault { IsErrOf result ReadAllFault.ReadFault → CountRose (S.told src.old) (S.told src.new) }
-        ensures cut { (result ≢ Err ReadAllFault.TooLong) → GaveSome (λ count. count ≤ max_input) (S.told src.old) (S.told src.new) }
-        ensures counts { NeverFell (S.told src.old) (S.told src.new) }
+    /// An input of these bytes, none of which is judged yet.
+    pub(crate) fn new(bytes: Vec<u8>) -> Input
+        ensures { result ≡ record { bytes = bytes.items; place = 0 } }
     {
-        let bytes = read_all(alloc, src, MAX_INPUT)?;
-        Ok(Input { bytes, place: 0 })
+        Input { bytes, place: 0 }
     }
 
     /// The graph of an input of one document.

@@ -1,4 +1,16 @@
-//! The commands of the program.
+//! The commands of the program: what the words of the command line ask for, and what is answered to an input.
+//!
+//! - `rule`: from the words and the streams to a `Status`: the input is read to its end, judged, and its answer written.
+//! - `Command`, `command_of`, `runs`: the commands of the grammar, the one that the words name, and which of them run today.
+//! - `Status`, `Refusal`: how a run ends, and why an input is refused; `Status::number` is the exit status, and `write_line` writes the line
+//!   on the error stream.
+//! - `one_verdict`, `graphs_are_typed`, `stripped_can_be_read`, `answers_read_back`, `answers_keep_behaviour`, `tells_numbers`: laws.
+//!
+//! What a command answers to an input is its verdict, an answer or a refusal: `specs/Judged.antt` has a case for each command, over the parts of
+//! an input in `specs/Parts.antt`. A command that runs is a file in `answers/`. `specs/Ruling.antt` says what a run does.
+//!
+//! The words `print` and the input `digraph {}` give the answer `digraph G {\n}\n` and the status `Done`; behind `digraph {} x` the verdict is
+//! `Syntax` at byte 11, where the `x` stands.
 #![tactic(auto)]
 
 mod answers;

@@ -10,8 +10,11 @@ use crate::laws::{answers_keep_behaviour, answers_read_back, one_verdict};
 use crate::refusal::Stop;
 use crate::status::Status;
 use crate::words::{Command, command_of, runs};
-use gx_base::{ReadAllFault, Sink, Source, write_all};
+use gx_base::{ReadAllFault, Sink, Source, read_all, write_all};
 use std::alloc::Global;
+
+/// The most bytes of an input.
+const MAX_INPUT: usize = 16_777_216;
 
 /// Rules what the words ask for: reads the input from `src` to its end, judges it, and writes the answer to `out`. Nothing goes to `out`
 /// before the whole answer is made. The words are the command line without the program's name.
@@ -38,8 +41,8 @@ fn run_command<S: Source, O: Sink>(
     ensures outcome { Outcome O.told command (S.told src.old) (S.told src.new) out.old out.new result }
     ensures counts { NeverFell (S.told src.old) (S.told src.new) × NeverFell (O.told out.old) (O.told out.new) }
 {
-    match Input::read(alloc, src) {
-        Ok(input) => match judge(alloc, command, input) {
+    match read_all(alloc, src, MAX_INPUT) {
+        Ok(bytes) => match judge(alloc, command, Input::new(bytes)) {
             Ok(text) => write_answer(out, &text),
             Err(Stop::Refused(refusal)) => Status::Refused(refusal),
             Err(Stop::NoMemory) => Status::NoMemory,
