@@ -11,9 +11,9 @@ use Rattle.commands.specs.declared.status.Status.TheVariants.{Done, Usage, NotYe
 use Rattle.commands.specs.declared.words.Command.{Command}
 use Rattle.commands.specs.declared.words.Command.TheVariants.{Print, Strip, Gather, Unfold, Rewrite, Trace, Loops, Sim, Check, Gen}
 use Rattle.commands.specs.Words.{runs, Reads}
-use Rattle.commands.specs.Judged.{Verdict, Judged, PrintsGraph}
+use Rattle.commands.specs.Judged.{Verdict, Judged}
 use Rattle.commands.specs.Laws.{IsOneVerdict, AnswersReadBack, AnswersRefine, AnswersDrain, AnswersHaveForm}
-use Rattle.commands.specs.Ruling.{max_input, Tells, answer, front, refusal, Judges, TellsVerdict, LeadsTo, Completes, IsPrint, Printed, Writes, all_written, write_failed, Outcome, answered, refused, no_memory, read_failed, too_long, Ran}
+use Rattle.commands.specs.Ruling.{max_input, Tells, answer, front, refusal, Judges, TellsVerdict, TellsAnswer, LeadsTo, Completes, IsPrint, Printed, Writes, all_written, write_failed, Outcome, answered, refused, no_memory, read_failed, too_long, Ran}
 
 -- a source that was not read gave nothing
 gave_nothing : (bytes : Option (List ℕ)) → bytes ≡ before [] bytes
@@ -116,14 +116,19 @@ module _ {O : Type 0} (told : O → Told) (command : Command) (src_old src_new :
   nothing_else status (read_failed some rose same) other cut = same
   nothing_else status (too_long some same) other cut = same
 
-  prints : (P : NamedGraph → NamedGraph → Type 0) → ((input text : List ℕ) → Judged command input (Ok text) → IsPrint P input text) → (status : Status) → Came status → status ≡ Done →
-      Printed P src_old src_new (told out_old) (told out_new)
-  prints P print status (answered input text s gave within is (all_written took)) e = record { input = input; gave = gave; text = text; took = took; print = print input text is }
-  prints P print status (answered input text s gave within is (write_failed took rose)) e = absurd (cc)
-  prints P print status (refused input why gave within is same) e = absurd (cc)
-  prints P print status (no_memory some same) e = absurd (cc)
-  prints P print status (read_failed some rose same) e = absurd (cc)
-  prints P print status (too_long some same) e = absurd (cc)
+  prints : (P : NamedGraph → NamedGraph → Type 0) → ((input text : List ℕ) → Judged command input (Ok text) → IsPrint P input text) → (status : Status) → Came status → TellsAnswer status →
+      Printed P command status src_old src_new (told out_old) (told out_new)
+  prints P print status (answered input text s gave within is writes) tells =
+      record {
+        judges = record { input = input; gave = gave; within = within; verdict = Ok text; judged = is; tells = writes_tell text status writes };
+        text = text;
+        is = refl;
+        print = print input text is;
+      }
+  prints P print status (refused input why gave within is same) tells = absurd tells
+  prints P print status (no_memory some same) tells = absurd tells
+  prints P print status (read_failed some rose same) tells = absurd tells
+  prints P print status (too_long some same) tells = absurd tells
 
   module _ (one : IsOneVerdict) (input : List ℕ) (has : src_old.bytes ≡ Some input) where
     was_read : (read : List ℕ) → GaveWhole read src_old src_new → read ≡ input
@@ -186,18 +191,6 @@ reads_of (Sim limit) is = is
 reads_of Check is = is
 reads_of (Gen count) is = absurd (true≢false (sym is))
 
-prints_of : (command : Command) → PrintsGraph command → IsTrue (runs command)
-prints_of Print prints = refl
-prints_of Strip prints = refl
-prints_of Gather prints = absurd prints
-prints_of Unfold prints = absurd prints
-prints_of Rewrite prints = absurd prints
-prints_of Trace prints = absurd prints
-prints_of Loops prints = absurd prints
-prints_of (Sim limit) prints = absurd prints
-prints_of Check prints = absurd prints
-prints_of (Gen count) prints = absurd prints
-
 module _ {S O : Type 0} (source : S → Told) (sink : O → Told) (src_old src_new : S) (out_old out_new : O) where
   -- words that name no command, and commands that do not run yet
   pub ran_usage : Ran source sink None Usage src_old src_old out_old out_old
@@ -214,10 +207,10 @@ module _ {S O : Type 0} (source : S → Told) (sink : O → Told) (src_old src_n
         write_fault = λ e. absurd (cc);
         nothing_written = λ _ _. refl;
         counts = (omega arith, omega arith);
-        reads_back = λ prints. absurd prints;
-        refines = λ prints. absurd prints;
-        drains = λ prints. absurd prints;
-        form = λ prints. absurd prints;
+        reads_back = λ tells. absurd tells;
+        refines = λ tells. absurd tells;
+        drains = λ tells. absurd tells;
+        form = λ tells. absurd tells;
       }
 
   pub ran_later : (command : Command) → runs command ≡ false → Ran source sink (Some command) NotYet src_old src_old out_old out_old
@@ -234,10 +227,10 @@ module _ {S O : Type 0} (source : S → Told) (sink : O → Told) (src_old src_n
         write_fault = λ e. absurd (cc);
         nothing_written = λ _ _. refl;
         counts = (omega arith, omega arith);
-        reads_back = λ prints. absurd (not_later command (prints_of command prints) later);
-        refines = λ prints. absurd (not_later command (prints_of command prints) later);
-        drains = λ prints. absurd (not_later command (prints_of command prints) later);
-        form = λ prints. absurd (not_later command (prints_of command prints) later);
+        reads_back = λ tells. absurd tells;
+        refines = λ tells. absurd tells;
+        drains = λ tells. absurd tells;
+        form = λ tells. absurd tells;
       }
 
   pub ran_command : IsOneVerdict → AnswersReadBack → AnswersRefine → AnswersDrain → AnswersHaveForm → (command : Command) → IsTrue (runs command) → (status : Status) →
@@ -258,8 +251,8 @@ module _ {S O : Type 0} (source : S → Told) (sink : O → Told) (src_old src_n
         write_fault = fault_of_write sink command old new out_old out_new status came;
         nothing_written = nothing_else sink command old new out_old out_new status came;
         counts = counts;
-        reads_back = λ print. prints sink command old new out_old out_new _ (λ input text. back command input text print) status came;
-        refines = λ print. prints sink command old new out_old out_new _ (λ input text. refines command input text print) status came;
-        drains = λ print. prints sink command old new out_old out_new _ (λ input text. drains command input text print) status came;
-        form = λ print. prints sink command old new out_old out_new _ (λ input text. form command input text print) status came;
+        reads_back = λ tells print. prints sink command old new out_old out_new _ (λ input text. back command input text print) status came tells;
+        refines = λ tells print. prints sink command old new out_old out_new _ (λ input text. refines command input text print) status came tells;
+        drains = λ tells print. prints sink command old new out_old out_new _ (λ input text. drains command input text print) status came tells;
+        form = λ tells print. prints sink command old new out_old out_new _ (λ input text. form command input text print) status came tells;
       }

@@ -1,12 +1,13 @@
 -- What is proved about verdicts.
-use Rattle.std.specs.Prelude.{◌≡◌, ℕ, List, Ok, IsTrue}
+use Rattle.std.specs.Prelude.{◌≡◌, ◌↔◌, ℕ, List, Ok, IsTrue}
 use Rattle.components.specs.NamedGraph.{NamedGraph, IsTyped}
 use Rattle.commands.specs.declared.words.Command.{Command}
 use Rattle.commands.specs.Words.{runs}
 use Rattle.commands.specs.Parts.{OneGraph}
 use Rattle.commands.specs.Judged.{Verdict, Judged, PrintsGraph, HasForm}
-use Rattle.commands.specs.Ruling.{IsPrint, IsReadBack, PrintRefines, PrintDrains}
+use Rattle.commands.specs.Ruling.{IsPrint, PrintCanBeRead, PrintRefines, PrintDrains}
 use Rattle.read_back.specs.ReadBack.{CanBeRead}
+use Rattle.read_back.specs.Input.{IsInputOf}
 use Rattle.rewrite.specs.Stripped.{IsStripped}
 
 -- a command that runs has a verdict on each input
@@ -21,13 +22,17 @@ IsOneVerdict = (command : Command) (input : List ℕ) (verdict other : Verdict) 
 abbrev pub GraphsAreTyped : Type 0
 GraphsAreTyped = (input : List ℕ) (g : NamedGraph) → OneGraph input (Ok g) → IsTyped g
 
+-- an input is judged to be one graph exactly where it is an input of this graph
+abbrev pub GraphInputs : Type 0
+GraphInputs = (input : List ℕ) (g : NamedGraph) → OneGraph input (Ok g) ↔ IsInputOf g input
+
 -- each answer of a command that prints a graph is the text of one that has P of the graph of the input
 abbrev pub AnswersHave : (Command → NamedGraph → NamedGraph → Type 0) → Type 0
 AnswersHave P = (command : Command) (input text : List ℕ) → PrintsGraph command → Judged command input (Ok text) → IsPrint (P command) input text
 
 -- answers are read back as the graphs whose texts they are
 abbrev pub AnswersReadBack : Type 0
-AnswersReadBack = AnswersHave (λ command. IsReadBack)
+AnswersReadBack = AnswersHave (λ command. PrintCanBeRead)
 
 -- they refine the graph of the input
 abbrev pub AnswersRefine : Type 0

@@ -2,12 +2,11 @@
 use Rattle.std.specs.Prelude.{◌≡◌, ◌≢◌, ◌⊎◌, ◌↔◌, ℕ, ◌+◌, ◌<◌, ◌≤◌, List, length, take, Option, Some, None, IfSome, Ok, Err}
 use Rattle.gx_base.specs.Stream.{Told, NeverFell, CountRose, GaveWhole, GaveSome, Took}
 use Rattle.components.specs.NamedGraph.{NamedGraph}
-use Rattle.graph_print.specs.CanonicalText.{text_of}
 use Rattle.circuits.specs.Circuit.{circuit_of}
 use Rattle.circuits.specs.Refines.{Refines}
 use Rattle.rewrite.specs.Behaviour.{KeepsDrains}
 use Rattle.read_back.specs.Input.{IsInputOf}
-use Rattle.read_back.specs.ReadBack.{IsTextOf}
+use Rattle.read_back.specs.ReadBack.{CanBeRead, IsTextOf}
 use Rattle.commands.specs.declared.refusal.Refusal.{Refusal}
 use Rattle.commands.specs.declared.status.Status.{Status}
 use Rattle.commands.specs.declared.status.Status.TheVariants.{Done, Usage, NotYet, Refused, TooLong, ReadFault, WriteFault, NoMemory}
@@ -66,25 +65,40 @@ pub record Completes (command : Command) (input : List ℕ) (status : Status) : 
   pub judged : (verdict : Verdict) → length input ≤ max_input → Judged command input verdict → LeadsTo verdict status
   pub long : max_input < length input → (status ≡ TooLong) ⊎ (status ≡ NoMemory)
 
--- the text of a graph that has P of the one that was read
+-- the text of a graph that has P of the one of the input: an input of the printed graph, and of no other
 pub record IsPrint (P : NamedGraph → NamedGraph → Type 0) (input text : List ℕ) : Type 0 where
   pub graph : NamedGraph
   pub read : IsInputOf graph input
   pub printed : NamedGraph
-  pub is : text ≡ text_of printed
+  pub is : IsTextOf printed text
   pub has : P graph printed
 
--- the input was read to its end, and the sink took the text of a graph that has P of the one that was read
-pub record Printed (P : NamedGraph → NamedGraph → Type 0) (src_old src_new out_old out_new : Told) : Type 0 where
-  pub input : List ℕ
-  pub gave : GaveWhole input src_old src_new
-  pub text : List ℕ
-  pub took : Took text out_old out_new
-  pub print : IsPrint P input text
+-- the status tells an answer, whether all of it was written or a front
+abbrev pub TellsAnswer : Status → Type 0
+TellsAnswer Done = Unit {0}
+TellsAnswer WriteFault = Unit {0}
+TellsAnswer Usage = ⊥
+TellsAnswer NotYet = ⊥
+TellsAnswer (Refused why) = ⊥
+TellsAnswer TooLong = ⊥
+TellsAnswer ReadFault = ⊥
+TellsAnswer NoMemory = ⊥
 
--- it is the text of the printed graph, an input of this graph and of no other
-abbrev pub IsReadBack : NamedGraph → NamedGraph → Type 0
-IsReadBack g printed = IsTextOf printed (text_of printed)
+-- P of the command that the words name, where it is one that prints a graph
+abbrev pub IfPrints : (Command → Type 0) → Option Command → Type 0
+IfPrints P None = Unit {0}
+IfPrints P (Some command) = PrintsGraph command → P command
+
+-- the answer that the status tells is the text of a graph that has P of the one that was read
+pub record Printed (P : NamedGraph → NamedGraph → Type 0) (command : Command) (status : Status) (src_old src_new out_old out_new : Told) : Type 0 where
+  pub judges : Judges command status src_old src_new out_old out_new
+  pub text : List ℕ
+  pub is : judges.verdict ≡ Ok text
+  pub print : IsPrint P judges.input text
+
+-- the printed graph is within the limits of reading, and what it keeps can be quoted and is UTF-8
+abbrev pub PrintCanBeRead : NamedGraph → NamedGraph → Type 0
+PrintCanBeRead g printed = CanBeRead printed
 
 -- the printed graph refines the one that was read: in every surrounding circuit it shows nothing that the other does not
 abbrev pub PrintRefines : NamedGraph → NamedGraph → Type 0
@@ -125,8 +139,11 @@ pub record Ran {S O : Type 0} (source : S → Told) (sink : O → Told) (found :
   pub write_fault : status ≡ WriteFault → CountRose (sink out_old) (sink out_new)
   pub nothing_written : status ≢ Done → status ≢ WriteFault → out_new ≡ out_old
   pub counts : NeverFell (source src_old) (source src_new) × NeverFell (sink out_old) (sink out_new)
-  pub reads_back : OfCommand PrintsGraph found → status ≡ Done → Printed IsReadBack (source src_old) (source src_new) (sink out_old) (sink out_new)
-  pub refines : OfCommand PrintsGraph found → status ≡ Done → Printed PrintRefines (source src_old) (source src_new) (sink out_old) (sink out_new)
-  pub drains : OfCommand PrintsGraph found → status ≡ Done → Printed PrintDrains (source src_old) (source src_new) (sink out_old) (sink out_new)
-  pub form : OfCommand PrintsGraph found → status ≡ Done →
-      OfCommand (λ command. Printed (HasForm command) (source src_old) (source src_new) (sink out_old) (sink out_new)) found
+  pub reads_back : TellsAnswer status →
+      IfPrints (λ command. Printed PrintCanBeRead command status (source src_old) (source src_new) (sink out_old) (sink out_new)) found
+  pub refines : TellsAnswer status →
+      IfPrints (λ command. Printed PrintRefines command status (source src_old) (source src_new) (sink out_old) (sink out_new)) found
+  pub drains : TellsAnswer status →
+      IfPrints (λ command. Printed PrintDrains command status (source src_old) (source src_new) (sink out_old) (sink out_new)) found
+  pub form : TellsAnswer status →
+      IfPrints (λ command. Printed (HasForm command) command status (source src_old) (source src_new) (sink out_old) (sink out_new)) found

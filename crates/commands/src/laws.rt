@@ -1,5 +1,5 @@
 //! Laws of verdicts, which tell what the contract of a run means.
-ghost use Rattle.commands.specs.Laws.{HasVerdict, IsOneVerdict, GraphsAreTyped, StrippedCanBeRead, AnswersReadBack, AnswersRefine, AnswersDrain, AnswersHaveForm};
+ghost use Rattle.commands.specs.Laws.{HasVerdict, IsOneVerdict, GraphsAreTyped, GraphInputs, StrippedCanBeRead, AnswersReadBack, AnswersRefine, AnswersDrain, AnswersHaveForm};
 
 use circuits::{graph_typed_as_circuit, refines_itself};
 use dot_text::{
@@ -30,6 +30,11 @@ pub fn graphs_are_typed()
     read_graphs_are_typed();
 }
 
+/// An input is judged to be one graph exactly where it is an input of this graph.
+pub fn graph_inputs()
+    ensures { GraphInputs }
+{}
+
 /// The stripped graph of a graph that is within the limits of reading, and whose kept texts can be quoted and are UTF-8, is so too.
 pub fn stripped_can_be_read()
     ensures { StrippedCanBeRead }
@@ -37,7 +42,7 @@ pub fn stripped_can_be_read()
     stripped_refines();
 }
 
-/// An answer is an input of the graph whose text it is, and of no other.
+/// An answer is the text of a graph that can be read, an input of this graph and of no other.
 pub fn answers_read_back()
     ensures { AnswersReadBack }
 {
@@ -52,6 +57,9 @@ pub fn answers_keep_behaviour()
     ensures drains { AnswersDrain }
     ensures form { AnswersHaveForm }
 {
+    print_of_print();
+    read_texts_can_be_quoted();
+    stripped_can_be_read();
     refines_itself();
     graph_typed_as_circuit();
     graphs_are_typed();

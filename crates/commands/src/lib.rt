@@ -4,7 +4,7 @@
 //! - `Command`, `command_of`, `runs`: the commands of the grammar, the one that the words name, and which of them run today.
 //! - `Status`, `Refusal`: how a run ends, and why an input is refused; `Status::number` is the exit status, and `write_line` writes the line
 //!   on the error stream.
-//! - `one_verdict`, `graphs_are_typed`, `stripped_can_be_read`, `answers_read_back`, `answers_keep_behaviour`, `tells_numbers`: laws.
+//! - `one_verdict`, `graphs_are_typed`, `graph_inputs`, `stripped_can_be_read`, `answers_read_back`, `answers_keep_behaviour`, `tells_numbers`: laws.
 //!
 //! What a command answers to an input is its verdict, an answer or a refusal: `specs/Judged.antt` has a case for each command, over the parts of
 //! an input in `specs/Parts.antt`. A command that runs is a file in `answers/`. `specs/Ruling.antt` says what a run does.
@@ -25,7 +25,8 @@ mod tests;
 mod words;
 
 pub use laws::{
-    answers_keep_behaviour, answers_read_back, graphs_are_typed, one_verdict, stripped_can_be_read,
+    answers_keep_behaviour, answers_read_back, graph_inputs, graphs_are_typed, one_verdict,
+    stripped_can_be_read,
 };
 pub use refusal::Refusal;
 pub use ruling::rule;

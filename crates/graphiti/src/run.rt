@@ -2,9 +2,9 @@
 ghost use Rattle.std.specs.Prelude.{◌≡◌, ◌≢◌, ◌↔◌, ◌+◌, ◌≤◌, None, IfSome};
 ghost use Rattle.gx_base.specs.Stream.{NeverFell, CountRose, GaveSome, Took};
 ghost use Rattle.commands.specs.Words.{command_in, IsLater, Reads};
-ghost use Rattle.commands.specs.Judged.{HasForm, PrintsGraph};
+ghost use Rattle.commands.specs.Judged.{HasForm};
 ghost use Rattle.commands.specs.Status.{TookFront, line_of};
-ghost use Rattle.commands.specs.Ruling.{max_input, Completes, IsReadBack, Judges, OfCommand, PrintDrains, PrintRefines, Printed, TellsVerdict};
+ghost use Rattle.commands.specs.Ruling.{max_input, Completes, IfPrints, Judges, OfCommand, PrintCanBeRead, PrintDrains, PrintRefines, Printed, TellsAnswer, TellsVerdict};
 ghost use Rattle.commands.specs.declared.status.Status.TheVariants as Status;
 
 use commands::{Status, rule, write_line};
@@ -50,21 +50,22 @@ pub fn run<S: Source, O: Sink, E: Sink>(
     // The counts never fall.
     ensures counts { NeverFell (S.told src.old) (S.told src.new) × NeverFell (O.told out.old) (O.told out.new) × NeverFell (E.told err.old) (E.told err.new) }
 
-    // What is printed of a graph is an input of the graph whose text it is, and of no other.
-    ensures reads_back { OfCommand PrintsGraph (command_in words.now) → result ≡ Status.Done →
-        Printed IsReadBack (S.told src.old) (S.told src.new) (O.told out.old) (O.told out.new) }
+    // Where the words name a command that prints a graph, and the status tells an answer, the answer is the text of a graph that can be read:
+    // an input of this graph and of no other.
+    ensures reads_back { TellsAnswer result → IfPrints (λ command. Printed PrintCanBeRead command result (S.told src.old) (S.told src.new) (O.told out.old) (O.told out.new))
+        (command_in words.now) }
 
-    // It refines the graph that was read: in every surrounding circuit it shows nothing that this does not.
-    ensures refines { OfCommand PrintsGraph (command_in words.now) → result ≡ Status.Done →
-        Printed PrintRefines (S.told src.old) (S.told src.new) (O.told out.old) (O.told out.new) }
+    // This graph refines the one that was read: in every surrounding circuit it shows nothing that the other does not.
+    ensures refines { TellsAnswer result → IfPrints (λ command. Printed PrintRefines command result (S.told src.old) (S.told src.new) (O.told out.old) (O.told out.new))
+        (command_in words.now) }
 
     // It drains, by itself, what the graph that was read drains, to the same outputs.
-    ensures drains { OfCommand PrintsGraph (command_in words.now) → result ≡ Status.Done →
-        Printed PrintDrains (S.told src.old) (S.told src.new) (O.told out.old) (O.told out.new) }
+    ensures drains { TellsAnswer result → IfPrints (λ command. Printed PrintDrains command result (S.told src.old) (S.told src.new) (O.told out.old) (O.told out.new))
+        (command_in words.now) }
 
     // It has the form that the command gives.
-    ensures form { OfCommand PrintsGraph (command_in words.now) → result ≡ Status.Done →
-        OfCommand (λ command. Printed (HasForm command) (S.told src.old) (S.told src.new) (O.told out.old) (O.told out.new)) (command_in words.now) }
+    ensures form { TellsAnswer result → IfPrints (λ command. Printed (HasForm command) command result (S.told src.old) (S.told src.new) (O.told out.old) (O.told out.new))
+        (command_in words.now) }
 {
     let status = rule(alloc, words, src, out);
     write_line(err, &status);
