@@ -4,9 +4,10 @@ use Rattle.std.specs.List.{concat, zip}
 use Rattle.std.proofs.lemmas.List.{append_cancel_left}
 use Rattle.std.proofs.lemmas.Option.{same_Some}
 use Rattle.op_table.specs.Value.{op_value}
+use Rattle.fun_expr.specs.Function.{fun_value}
 use Rattle.port_types.specs.Token.{Fits}
 use Rattle.components.specs.declared.kind.Kind.{Kind}
-use Rattle.components.specs.declared.kind.Kind.TheVariants.{Entry, Exit, Buffer, Fork, Join, Split, Operator, Constant, Source0, Sink0, Mux, Branch, Merge, CtrlMerge, Init, Tagger}
+use Rattle.components.specs.declared.kind.Kind.TheVariants.{Entry, Exit, Buffer, Fork, Join, Split, Operator, Constant, Source0, Sink0, Pure, Mux, Branch, Merge, CtrlMerge, Init, Tagger}
 use Rattle.components.specs.Name.{Name, Port}
 use Rattle.components.specs.Kind.{Shape}
 use Rattle.circuits.specs.PortTokens.{Token, single, one, at_port, share, share_from}
@@ -203,6 +204,8 @@ module _ (wire : ℕ → List Token) (choice : ℕ) (old : List Slot) (differ : 
   fires_alike (Source0 a) (z, et, eg, en) (y, ft, fg, fn) = record { takes = et ∙ sym ft; gives = eg ∙ sym fg; slots = en ∙ sym fn }
   fires_alike (Sink0 a) (v, z, et, eg, en) (w, y, ft, fg, fn) =
       by_same (λ x. one x ∷ []) (λ x. []) v w taken given taken2 given2 new new2 old (one_input v w et ft) et eg en ft fg fn
+  fires_alike (Pure fun a) (v, z, et, eg, en) (w, y, ft, fg, fn) =
+      by_same (λ x. one x ∷ []) (λ x. one (fun_value fun x) ∷ []) v w taken given taken2 given2 new new2 old (one_input v w et ft) et eg en ft fg fn
   fires_alike (Mux a) (v, z, selects, eg, en) (w, y, selects2, fg, fn) = muxes v w selects selects2 eg fg en fn
   fires_alike (Branch a) (v, z, leads, en) (w, y, leads2, fn) = branches v w leads leads2 en fn
   fires_alike (Merge a count) (v, below, et, eg, en) (w, below2, ft, fg, fn) =

@@ -8,10 +8,11 @@ use Rattle.std.proofs.lemmas.Option.{same_Some}
 use Rattle.op_table.specs.declared.op.Op.{Op}
 use Rattle.op_table.specs.Operator.{IsTypedOp}
 use Rattle.op_table.specs.Value.{InputsFit, op_value}
+use Rattle.fun_expr.specs.Function.{fun_value}
 use Rattle.circuits.specs.Values.{ValuesFit}
 use Rattle.port_types.specs.Token.{Fits}
 use Rattle.components.specs.declared.kind.Kind.{Kind}
-use Rattle.components.specs.declared.kind.Kind.TheVariants.{Entry, Exit, Buffer, Fork, Join, Split, Operator, Constant, Source0, Sink0, Mux, Branch, Merge, CtrlMerge, Init, Tagger}
+use Rattle.components.specs.declared.kind.Kind.TheVariants.{Entry, Exit, Buffer, Fork, Join, Split, Operator, Constant, Source0, Sink0, Pure, Mux, Branch, Merge, CtrlMerge, Init, Tagger}
 use Rattle.components.specs.Name.{port_get}
 use Rattle.components.specs.Kind.{Shape, field, ins, outs, KindOk}
 use Rattle.circuits.specs.PortTokens.{Token, single, one}
@@ -117,6 +118,10 @@ fires_fit values (Constant a width value) choice old taken given new (v, z, et, 
 fires_fit values (Source0 a) choice old taken given new (z, et, eg, en) before =
     still (Source0 a) old taken given new before en (subst (SideFits (a ∷ [])) (sym eg) ((zeros_fit a, tt), tt))
 fires_fit values (Sink0 a) choice old taken given new (v, z, et, eg, en) before = still (Sink0 a) old taken given new before en tt
+fires_fit values (Pure fun a) choice old taken given new (v, z, et, eg, en) before =
+    let h : SideFits (fun.input ∷ []) (one v ∷ []) = subst (SideFits (fun.input ∷ [])) et before.side in
+    let fits : Fits a (fun_value fun v) = subst (λ b. Fits b (fun_value fun v)) before.ok.2 (values.functions fun v before.ok.1 h.0.0) in
+    still (Pure fun a) old taken given new before en (subst (SideFits (a ∷ [])) (sym eg) ((fits, tt), tt))
 fires_fit values (Mux a) choice old taken given new (v, z, selects, eg, en) before =
     still (Mux a) old taken given new before en (subst (SideFits (a ∷ [])) (sym eg) ((selected_fits a v taken selects before.side, tt), tt))
 fires_fit values (Branch a) choice old taken given new (v, z, leads, en) before =

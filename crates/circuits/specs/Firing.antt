@@ -2,9 +2,10 @@
 use Rattle.std.specs.Prelude.{◌≡◌, ◌⊎◌, ℕ, zero, suc, ◌^◌, ◌%◌, ◌<◌, List, [], ◌∷◌, ◌++◌, Some, None, map, length, replicate}
 use Rattle.std.specs.List.{concat, zip}
 use Rattle.op_table.specs.Value.{op_value}
+use Rattle.fun_expr.specs.Function.{fun_value}
 use Rattle.port_types.specs.Token.{Fits}
 use Rattle.components.specs.declared.kind.Kind.{Kind}
-use Rattle.components.specs.declared.kind.Kind.TheVariants.{Entry, Exit, Buffer, Fork, Join, Split, Operator, Constant, Source0, Sink0, Mux, Branch, Merge, CtrlMerge, Init, Tagger}
+use Rattle.components.specs.declared.kind.Kind.TheVariants.{Entry, Exit, Buffer, Fork, Join, Split, Operator, Constant, Source0, Sink0, Pure, Mux, Branch, Merge, CtrlMerge, Init, Tagger}
 use Rattle.components.specs.Kind.{Shape}
 use Rattle.circuits.specs.PortTokens.{Token, single, one}
 use Rattle.circuits.specs.CircuitState.{Slot, HasNoTag}
@@ -77,6 +78,8 @@ Fires (Source0 shape) choice old taken given new =
     (choice ≡ 0) × (taken ≡ []) × (given ≡ one (map (λ width. 0) shape) ∷ []) × (new ≡ old)
 Fires (Sink0 shape) choice old taken given new =
     (v : Token) × (choice ≡ 0) × (taken ≡ one v ∷ []) × (given ≡ []) × (new ≡ old)
+Fires (Pure fun shape) choice old taken given new =
+    (v : Token) × (choice ≡ 0) × (taken ≡ one v ∷ []) × (given ≡ one (fun_value fun v) ∷ []) × (new ≡ old)
 Fires (Mux shape) choice old taken given new =
     (v : Token) × (choice ≡ 0) × Selects v taken × (given ≡ one v ∷ []) × (new ≡ old)
 Fires (Branch shape) choice old taken given new =

@@ -29,6 +29,7 @@
 
 ghost use Rattle.circuits.specs.Laws.{StartIsState, StepKeepsState, RunReachesState, FiringIsOne, TaggerKeepsOrder, RefinesItself, RefinesInSteps, RefinesAlone, PlugIsTyped, WholeRefines, DropRefines, PutRefines, CircuitIsTyped, GraphIsTyped, GraphDropRefines, GraphPutRefines, RootIsOne, RingHasNoRoot, RestIsOne, GraphRests, RestsWithoutInit, DropDrains, GraphDropDrains};
 
+use fun_expr::fun_value_fits;
 use op_table::value_fits;
 
 /// In each state that a typed circuit reaches, tokens fit the shapes of their wires, what stands in the slots of Taggers
@@ -39,6 +40,7 @@ pub fn states_fit()
     ensures run { RunReachesState }
 {
     value_fits();
+    fun_value_fits();
 }
 
 /// A node that fires with a choice in a state leads to one state: all that is open in a run is who goes next, and with
@@ -83,6 +85,7 @@ pub fn buffer_shows_nothing()
     ensures put { PutRefines }
 {
     value_fits();
+    fun_value_fits();
 }
 
 /// A graph is typed exactly where its circuit is.
@@ -97,6 +100,7 @@ pub fn graph_buffer_shows_nothing()
     ensures put { GraphPutRefines }
 {
     value_fits();
+    fun_value_fits();
 }
 
 /// An input has at most one root, and that of a Buffer that is wired to itself has none.

@@ -11,17 +11,15 @@ use Rattle.components.specs.NamedGraph.{NamedGraph, IsTyped}
 use Rattle.graph_print.specs.CanonicalText.{text_of}
 use Rattle.graph_read.specs.declared.fault.GraphRefusal.{GraphRefusal}
 use Rattle.graph_read.specs.GraphReading.{graph_reading}
-use Rattle.graph_read.specs.GraphLaws.{ReadHasNoPure}
-use Rattle.graph_read.specs.Pure.{has_pure}
 use Rattle.read_back.specs.Input.{IsInputOf}
 use Rattle.rewrite.specs.Stripped.{HasStripped, IsOneStripped}
 use Rattle.commands.specs.declared.refusal.Refusal.{Refusal}
-use Rattle.commands.specs.declared.refusal.Refusal.TheVariants.{Syntax, Graph, NotYet}
+use Rattle.commands.specs.declared.refusal.Refusal.TheVariants.{Syntax, Graph}
 use Rattle.commands.specs.declared.words.Command.{Command}
 use Rattle.commands.specs.declared.words.Command.TheVariants.{Print, Strip, Gather, Unfold, Rewrite, Trace, Loops, Sim, Check, Gen}
 use Rattle.commands.specs.Words.{runs}
 use Rattle.commands.specs.Judged.{Verdict, Judged}
-use Rattle.commands.specs.Parts.{Then, refused, goes_on, StandsAt, stands, nothing, GraphIn, graph, not_yet, no_graph, DocumentAt, EndAt, nothing_more, unclosed, more, OneGraph}
+use Rattle.commands.specs.Parts.{Then, refused, goes_on, StandsAt, stands, nothing, GraphIn, graph, no_graph, DocumentAt, EndAt, nothing_more, unclosed, more, OneGraph}
 
 -- a part has an answer
 abbrev Has : {X : Type 0} → (Result X Refusal → Type 0) → Type 0
@@ -79,30 +77,22 @@ standing_is bytes from answer d (stands document end is) e =
     subst (λ (pair : Doc × ℕ). Stands bytes from pair.0 pair.1) (same_answer (document, end) d e) is
 standing_is bytes from answer d (nothing place at) e = absurd (answer_or_refusal d (Syntax place) (sym e))
 
-graph_of : (document : Doc) (pure : Bool) → has_pure document ≡ pure → (answer : Result NamedGraph GraphRefusal) → graph_reading document ≡ answer → Has (GraphIn document)
-graph_of document true pure answer is = (Err NotYet, not_yet pure)
-graph_of document false pure (Ok g) is = (Ok g, graph g is)
-graph_of document false pure (Err refusal) is = (Err (Graph refusal), no_graph refusal pure is)
+graph_of : (document : Doc) (answer : Result NamedGraph GraphRefusal) → graph_reading document ≡ answer → Has (GraphIn document)
+graph_of document (Ok g) is = (Ok g, graph g is)
+graph_of document (Err refusal) is = (Err (Graph refusal), no_graph refusal is)
 
 graph_is : (document : Doc) (answer : Result NamedGraph Refusal) (g : NamedGraph) → GraphIn document answer → answer ≡ Ok g → graph_reading document ≡ Ok g
 graph_is document answer g (graph h is) e = is ∙ ap Ok (same_answer h g e)
-graph_is document answer g (not_yet pure) e = absurd (answer_or_refusal g NotYet (sym e))
-graph_is document answer g (no_graph refusal pure is) e = absurd (answer_or_refusal g (Graph refusal) (sym e))
+graph_is document answer g (no_graph refusal is) e = absurd (answer_or_refusal g (Graph refusal) (sym e))
 
 not_refused : (document : Doc) (g : NamedGraph) (refusal : GraphRefusal) → graph_reading document ≡ Ok g → ¬ (graph_reading document ≡ Err refusal)
 not_refused document g refusal reads is = absurd (cc)
 
-module _ (no_pure : ReadHasNoPure) (document : Doc) where
-  once_graph : Once (GraphIn document)
-  once_graph a b (graph g is) (graph h also) = ap Ok (same_answer g h (sym is ∙ also))
-  once_graph a b (graph g is) (not_yet pure) = absurd (true≢false (sym pure ∙ no_pure document g is))
-  once_graph a b (graph g is) (no_graph refusal pure also) = absurd (not_refused document g refusal is also)
-  once_graph a b (not_yet pure) (graph g is) = absurd (true≢false (sym pure ∙ no_pure document g is))
-  once_graph a b (not_yet pure) (not_yet also) = refl
-  once_graph a b (not_yet pure) (no_graph refusal none is) = absurd (true≢false (sym pure ∙ none))
-  once_graph a b (no_graph refusal pure also) (graph g is) = absurd (not_refused document g refusal is also)
-  once_graph a b (no_graph refusal none is) (not_yet pure) = absurd (true≢false (sym pure ∙ none))
-  once_graph a b (no_graph r pure is) (no_graph s none also) = ap (λ refusal. Err (Graph refusal)) (same_refusal r s (sym is ∙ also))
+once_graph : (document : Doc) → Once (GraphIn document)
+once_graph document a b (graph g is) (graph h also) = ap Ok (same_answer g h (sym is ∙ also))
+once_graph document a b (graph g is) (no_graph refusal also) = absurd (not_refused document g refusal is also)
+once_graph document a b (no_graph refusal also) (graph g is) = absurd (not_refused document g refusal is also)
+once_graph document a b (no_graph r is) (no_graph s also) = ap (λ refusal. Err (Graph refusal)) (same_refusal r s (sym is ∙ also))
 
 module _ (one : OneDocument) (one_place : OnePlace) (no_place : NoPlaceInDocument) (bytes : List ℕ) (from : ℕ) where
   once_standing : Once (StandsAt bytes from)
@@ -172,7 +162,7 @@ input_is input g is =
 module _ (decides : ReadingDecides) (stays : StandsWithin) (skipping_decides : SkippingDecides) (input : List ℕ) where
   has_document : Has (DocumentAt input 0)
   has_document = has_then _ _ (standing_of input 0 (reading input 0) (decides input 0 (omega arith))) (λ standing at.
-      has_then _ _ (graph_of standing.0 (has_pure standing.0) refl (graph_reading standing.0) refl) (λ g is. just (g, standing.1)))
+      has_then _ _ (graph_of standing.0 (graph_reading standing.0) refl) (λ g is. just (g, standing.1)))
 
   has_one_graph : Has (OneGraph input)
   has_one_graph = has_then _ _ has_document (λ found at.
@@ -193,9 +183,9 @@ module _ (decides : ReadingDecides) (stays : StandsWithin) (skipping_decides : S
   has_verdict strips typed (Gen count) is = absurd (true≢false (sym is))
 
 module _ (one : OneDocument) (one_place : OnePlace) (no_place : NoPlaceInDocument) (one_end : OneEndOfBlanks) (one_unclosed : OneUnclosed) (not_both : NotBothSkips)
-    (no_pure : ReadHasNoPure) (input : List ℕ) where
+    (input : List ℕ) where
   once_document : Once (DocumentAt input 0)
-  once_document = once_then _ _ (once_standing one one_place no_place input 0) (λ standing. once_then _ _ (once_graph no_pure standing.0) (λ g. once_just (g, standing.1)))
+  once_document = once_then _ _ (once_standing one one_place no_place input 0) (λ standing. once_then _ _ (once_graph standing.0) (λ g. once_just (g, standing.1)))
 
   once_one_graph : Once (OneGraph input)
   once_one_graph = once_then _ _ once_document (λ found. once_then _ _ (once_end one_end one_unclosed not_both input found.1) (λ _. once_just found.0))

@@ -1,14 +1,13 @@
 -- The parts of an input, from left to right: each is judged whole where the one before it ended.
-use Rattle.std.specs.Prelude.{◌≡◌, ℕ, ◌<◌, false, List, length, Result, Ok, Err, IsTrue}
+use Rattle.std.specs.Prelude.{◌≡◌, ℕ, ◌<◌, List, length, Result, Ok, Err}
 use Rattle.dot_text.specs.declared.doc.Doc.{Doc}
 use Rattle.dot_text.specs.Documents.{Stands, Place}
 use Rattle.dot_text.specs.Blanks.{SkipsTo, SkipFails}
 use Rattle.components.specs.NamedGraph.{NamedGraph}
 use Rattle.graph_read.specs.declared.fault.GraphRefusal.{GraphRefusal}
 use Rattle.graph_read.specs.GraphReading.{graph_reading}
-use Rattle.graph_read.specs.Pure.{has_pure}
 use Rattle.commands.specs.declared.refusal.Refusal.{Refusal}
-use Rattle.commands.specs.declared.refusal.Refusal.TheVariants.{Syntax, Graph, NotYet}
+use Rattle.commands.specs.declared.refusal.Refusal.TheVariants.{Syntax, Graph}
 
 -- one part and then the rest, which is judged only where the part is not refused
 pub data Then {X Y : Type 0} (Part : Result X Refusal → Type 0) (Rest : X → Result Y Refusal → Type 0) : Result Y Refusal → Type 0 where
@@ -20,11 +19,10 @@ pub data StandsAt (bytes : List ℕ) (from : ℕ) : Result (Doc × ℕ) Refusal 
   stands : (document : Doc) (end : ℕ) → Stands bytes from document end → StandsAt bytes from (Ok (document, end))
   nothing : (place : ℕ) → Place bytes from place → StandsAt bytes from (Err (Syntax place))
 
--- the graph of a document; one in which a function is applied is not taken yet; what else is no graph has its first refusal
+-- the graph of a document, or its first refusal
 pub data GraphIn (document : Doc) : Result NamedGraph Refusal → Type 0 where
   graph : (g : NamedGraph) → graph_reading document ≡ Ok g → GraphIn document (Ok g)
-  not_yet : IsTrue (has_pure document) → GraphIn document (Err NotYet)
-  no_graph : (refusal : GraphRefusal) → has_pure document ≡ false → graph_reading document ≡ Err refusal → GraphIn document (Err (Graph refusal))
+  no_graph : (refusal : GraphRefusal) → graph_reading document ≡ Err refusal → GraphIn document (Err (Graph refusal))
 
 -- a document of a graph: the graph, and where the document ends
 abbrev pub DocumentAt : List ℕ → ℕ → Result (NamedGraph × ℕ) Refusal → Type 0

@@ -19,7 +19,6 @@ use Rattle.commands.specs.declared.status.Status.TheVariants.{Done, Usage, NotYe
 abbrev pub refusal_number : Refusal → ℕ
 refusal_number (refused.Syntax at) = 2
 refusal_number (refused.Graph refusal) = 3
-refusal_number refused.NotYet = 10
 
 -- the program's exit status
 abbrev pub number_of : Status → ℕ
@@ -82,7 +81,6 @@ graph_text kind place name None =
 abbrev pub refusal_line : Refusal → List ℕ
 refusal_line (refused.Syntax at) = codes "graphiti: syntax at byte " ++ decimal at ++ codes "\n"
 refusal_line (refused.Graph refusal) = codes "graphiti: " ++ graph_text refusal.kind refusal.place refusal.name refusal.port_open ++ codes "\n"
-refusal_line refused.NotYet = codes "graphiti: not yet\n"
 
 -- the line on the error stream
 abbrev pub line_of : Status → List ℕ
@@ -101,7 +99,6 @@ line_of NoMemory = codes "graphiti: no memory\n"
 abbrev pub refusal_name : Refusal → List ℕ
 refusal_name (refused.Syntax at) = []
 refusal_name (refused.Graph refusal) = refusal.name
-refusal_name refused.NotYet = []
 
 abbrev pub name_of : Status → List ℕ
 name_of Done = []

@@ -6,7 +6,7 @@ ghost use Rattle.commands.specs.Parts.{StandsAt, GraphIn, DocumentAt, EndAt, One
 use crate::refusal::{Refusal, Stop};
 use dot_text::{Doc, DocFault, read_doc, skip_blank};
 use graph_core::Graph;
-use graph_read::{GraphFault, graph_of, has_pure};
+use graph_read::{GraphFault, graph_of};
 use std::alloc::Global;
 use std::marker::Model;
 
@@ -85,9 +85,6 @@ impl Input {
 fn graph_in(alloc: Global, document: &Doc) -> Result<Graph, Stop>
     ensures { Found (λ g. g.graph) (GraphIn document.now) result }
 {
-    if has_pure(document) {
-        return Err(Stop::Refused(Refusal::NotYet));
-    }
     match graph_of(alloc, document) {
         Ok(g) => Ok(g),
         Err(GraphFault::Refused(refusal)) => Err(Stop::Refused(Refusal::Graph(refusal))),

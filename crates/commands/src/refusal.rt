@@ -6,7 +6,7 @@ ghost use Rattle.port_types.specs.PortText.{port_name};
 ghost use Rattle.commands.specs.declared.refusal.Refusal.TheVariants.{Graph};
 ghost use Rattle.commands.specs.Status.{bytes_of, fault_word, is_of_edge, refusal_line, refusal_name, refusal_number};
 
-use crate::line::{PIECES, Piece, number_line, text_line};
+use crate::line::{PIECES, Piece, number_line};
 use graph_read::{GraphFaultKind, GraphRefusal};
 use port_types::{NoMemory, Side};
 
@@ -17,8 +17,6 @@ pub enum Refusal {
     Syntax(usize),
     /// A document in it is no graph; this is the first thing that is wrong with it.
     Graph(GraphRefusal),
-    /// A document in it is not taken yet.
-    NotYet,
 }
 
 /// Why the judging of an input ends without an answer.
@@ -47,7 +45,6 @@ impl Refusal {
         match self {
             Refusal::Syntax(_) => 2,
             Refusal::Graph(_) => 3,
-            Refusal::NotYet => 10,
         }
     }
 
@@ -58,7 +55,6 @@ impl Refusal {
         match self {
             Refusal::Syntax(at) => number_line("graphiti: syntax at byte ", *at, "\n"),
             Refusal::Graph(refusal) => graph_line(refusal),
-            Refusal::NotYet => text_line("graphiti: not yet\n"),
         }
     }
 
@@ -68,7 +64,7 @@ impl Refusal {
     {
         match self {
             Refusal::Graph(refusal) => refusal.name.bytes(),
-            Refusal::Syntax(_) | Refusal::NotYet => &[],
+            Refusal::Syntax(_) => &[],
         }
     }
 }

@@ -79,8 +79,8 @@ fn answers_and_refusals(rt: HostRuntime) -> Result<(), Fail> {
     check_rule(
         &rt,
         "print",
-        "digraph { a [type=Pure] }",
-        (10, "", "graphiti: not yet\n"),
+        "digraph { a [type=Pure, in=\"in1:8\", out=\"out1:8\"] }",
+        (3, "", "graphiti: BadFun \"a\"\n"),
     )
 }
 

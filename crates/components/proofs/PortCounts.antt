@@ -6,7 +6,7 @@ use Rattle.op_table.specs.Laws.{TypedWidths}
 use Rattle.port_types.specs.Shape.{IsShape}
 use Rattle.port_types.specs.declared.side.Side.TheVariants.{Ins, Outs}
 use Rattle.components.specs.declared.kind.Kind.{Kind}
-use Rattle.components.specs.declared.kind.Kind.TheVariants.{Entry, Exit, Buffer, Fork, Join, Split, Operator, Constant, Source0, Sink0, Mux, Branch, Merge, CtrlMerge, Init, Tagger}
+use Rattle.components.specs.declared.kind.Kind.TheVariants.{Entry, Exit, Buffer, Fork, Join, Split, Operator, Constant, Source0, Sink0, Pure, Mux, Branch, Merge, CtrlMerge, Init, Tagger}
 use Rattle.components.specs.Kind.{Shape, field, ins, outs, KindOk}
 use Rattle.components.specs.Laws.{PortsAreShapes}
 use Rattle.components.proofs.PortShapes.{ins_ok, outs_ok}
@@ -26,6 +26,7 @@ module _ (typed : TypedWidths) where
   few_ins (Constant shape width value) ok = omega arith
   few_ins (Source0 shape) ok = omega arith
   few_ins (Sink0 shape) ok = omega arith
+  few_ins (Pure fun shape) ok = omega arith
   few_ins (Mux shape) ok = omega arith
   few_ins (Branch shape) ok = omega arith
   few_ins (Merge shape count) ok = few_same count shape ok.1.1
@@ -44,6 +45,7 @@ few_outs (Operator op widths width) ok = omega arith
 few_outs (Constant shape width value) ok = omega arith
 few_outs (Source0 shape) ok = omega arith
 few_outs (Sink0 shape) ok = omega arith
+few_outs (Pure fun shape) ok = omega arith
 few_outs (Mux shape) ok = omega arith
 few_outs (Branch shape) ok = omega arith
 few_outs (Merge shape count) ok = omega arith

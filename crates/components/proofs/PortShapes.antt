@@ -12,7 +12,7 @@ use Rattle.port_types.specs.Shape.{IsShape}
 use Rattle.port_types.specs.declared.side.Side.{Side}
 use Rattle.port_types.specs.declared.side.Side.TheVariants.{Ins, Outs}
 use Rattle.components.specs.declared.kind.Kind.{Kind}
-use Rattle.components.specs.declared.kind.Kind.TheVariants.{Entry, Exit, Buffer, Fork, Join, Split, Operator, Constant, Source0, Sink0, Mux, Branch, Merge, CtrlMerge, Init, Tagger}
+use Rattle.components.specs.declared.kind.Kind.TheVariants.{Entry, Exit, Buffer, Fork, Join, Split, Operator, Constant, Source0, Sink0, Pure, Mux, Branch, Merge, CtrlMerge, Init, Tagger}
 use Rattle.components.specs.Kind.{Shape, field, ins, outs, ports, KindOk}
 use Rattle.components.specs.Name.{port_get}
 
@@ -103,6 +103,7 @@ ins_ok (Operator op widths width) ok = operands widths (narrow op widths width o
 ins_ok (Constant shape width value) ok = (ok.0, tt)
 ins_ok (Source0 shape) ok = tt
 ins_ok (Sink0 shape) ok = (ok, tt)
+ins_ok (Pure fun shape) ok = (ok.1.input, tt)
 ins_ok (Mux shape) ok = (one, (ok, (ok, tt)))
 ins_ok (Branch shape) ok = (ok, (one, tt))
 ins_ok (Merge shape count) ok = all_one count shape ok.0
@@ -121,6 +122,7 @@ outs_ok (Operator op widths width) ok = (field_shape width (narrow op widths wid
 outs_ok (Constant shape width value) ok = (field_shape width ok.1, tt)
 outs_ok (Source0 shape) ok = (ok, tt)
 outs_ok (Sink0 shape) ok = tt
+outs_ok (Pure fun shape) ok = (ok.0, tt)
 outs_ok (Mux shape) ok = (ok, tt)
 outs_ok (Branch shape) ok = (ok, (ok, tt))
 outs_ok (Merge shape count) ok = (ok.0, tt)

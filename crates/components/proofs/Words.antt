@@ -1,6 +1,6 @@
 -- Each component is found by its word.
 use Rattle.std.proofs.Common.{refl}
-use Rattle.components.specs.declared.component.Component.TheVariants.{Entry, Exit, Buffer, Fork, Join, Split, Operator, Constant, Source, Sink, Mux, Branch, Merge, CtrlMerge, Init, Tagger}
+use Rattle.components.specs.declared.component.Component.TheVariants.{Entry, Exit, Buffer, Fork, Join, Split, Operator, Constant, Source, Sink, Pure, Mux, Branch, Merge, CtrlMerge, Init, Tagger}
 use Rattle.components.specs.Component.{component_of, WordsReadBack}
 
 pub words_read_back : WordsReadBack
@@ -15,6 +15,7 @@ words_read_back Operator = refl
 words_read_back Constant = refl
 words_read_back Source = refl
 words_read_back Sink = refl
+words_read_back Pure = refl
 words_read_back Mux = refl
 words_read_back Branch = refl
 words_read_back Merge = refl

@@ -4,11 +4,11 @@ use Rattle.std.specs.Option.{option_or}
 use Rattle.components.specs.declared.kind.Kind.{Kind}
 use Rattle.components.specs.declared.kind.Kind as kind
 use Rattle.components.specs.declared.component.Component.{Component}
-use Rattle.components.specs.declared.component.Component.TheVariants.{Entry, Exit, Buffer, Fork, Join, Split, Operator, Constant, Source, Sink, Mux, Branch, Merge, CtrlMerge, Init, Tagger}
+use Rattle.components.specs.declared.component.Component.TheVariants.{Entry, Exit, Buffer, Fork, Join, Split, Operator, Constant, Source, Sink, Pure, Mux, Branch, Merge, CtrlMerge, Init, Tagger}
 
 -- the components, in the order of the table
 abbrev pub components : List Component
-components = Entry ∷ Exit ∷ Buffer ∷ Fork ∷ Join ∷ Split ∷ Operator ∷ Constant ∷ Source ∷ Sink ∷ Mux ∷ Branch ∷ Merge ∷ CtrlMerge ∷ Init ∷ Tagger ∷ []
+components = Entry ∷ Exit ∷ Buffer ∷ Fork ∷ Join ∷ Split ∷ Operator ∷ Constant ∷ Source ∷ Sink ∷ Pure ∷ Mux ∷ Branch ∷ Merge ∷ CtrlMerge ∷ Init ∷ Tagger ∷ []
 
 -- the component that a kind is of
 abbrev pub component_at : Kind → Component
@@ -22,6 +22,7 @@ component_at (kind.TheVariants.Operator op widths width) = Operator
 component_at (kind.TheVariants.Constant shape width value) = Constant
 component_at (kind.TheVariants.Source0 shape) = Source
 component_at (kind.TheVariants.Sink0 shape) = Sink
+component_at (kind.TheVariants.Pure fun shape) = Pure
 component_at (kind.TheVariants.Mux shape) = Mux
 component_at (kind.TheVariants.Branch shape) = Branch
 component_at (kind.TheVariants.Merge shape count) = Merge
@@ -41,6 +42,7 @@ word_of Operator = codes "Operator"
 word_of Constant = codes "Constant"
 word_of Source = codes "Source"
 word_of Sink = codes "Sink"
+word_of Pure = codes "Pure"
 word_of Mux = codes "Mux"
 word_of Branch = codes "Branch"
 word_of Merge = codes "Merge"

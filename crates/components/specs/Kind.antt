@@ -1,13 +1,14 @@
 -- The table of components: what each kind of node has at its ports.
-use Rattle.std.specs.Prelude.{ℕ, ◌^◌, ◌≤◌, List, [], ◌∷◌, map, replicate, length, All}
+use Rattle.std.specs.Prelude.{◌≡◌, ℕ, ◌^◌, ◌≤◌, List, [], ◌∷◌, map, replicate, length, All}
 use Rattle.std.specs.List.{concat}
 use Rattle.op_table.specs.Operator.{IsTypedOp}
+use Rattle.fun_expr.specs.Function.{FunOk, out_widths}
 use Rattle.port_types.specs.Shape.{IsShape}
 use Rattle.port_types.specs.Tag.{tag_width}
 use Rattle.port_types.specs.declared.side.Side.{Side}
 use Rattle.port_types.specs.declared.side.Side.TheVariants.{Ins, Outs}
 use Rattle.components.specs.declared.kind.Kind.{Kind}
-use Rattle.components.specs.declared.kind.Kind.TheVariants.{Entry, Exit, Buffer, Fork, Join, Split, Operator, Constant, Source0, Sink0, Mux, Branch, Merge, CtrlMerge, Init, Tagger}
+use Rattle.components.specs.declared.kind.Kind.TheVariants.{Entry, Exit, Buffer, Fork, Join, Split, Operator, Constant, Source0, Sink0, Pure, Mux, Branch, Merge, CtrlMerge, Init, Tagger}
 
 -- the widths of the fields
 abbrev pub Shape : Type 0
@@ -33,6 +34,7 @@ ins (Operator op widths width) = map field widths
 ins (Constant shape width value) = shape ∷ []
 ins (Source0 shape) = []
 ins (Sink0 shape) = shape ∷ []
+ins (Pure fun shape) = fun.input ∷ []
 ins (Mux shape) = field 1 ∷ shape ∷ shape ∷ []
 ins (Branch shape) = shape ∷ field 1 ∷ []
 ins (Merge shape count) = replicate count shape
@@ -52,6 +54,7 @@ outs (Operator op widths width) = field width ∷ []
 outs (Constant shape width value) = field width ∷ []
 outs (Source0 shape) = shape ∷ []
 outs (Sink0 shape) = []
+outs (Pure fun shape) = shape ∷ []
 outs (Mux shape) = shape ∷ []
 outs (Branch shape) = shape ∷ shape ∷ []
 outs (Merge shape count) = shape ∷ []
@@ -86,6 +89,7 @@ KindOk (Operator op widths width) = IsTypedOp op widths width
 KindOk (Constant shape width value) = IsShape shape × (width ≤ 64)
 KindOk (Source0 shape) = IsShape shape
 KindOk (Sink0 shape) = IsShape shape
+KindOk (Pure fun shape) = IsShape shape × FunOk fun × (out_widths fun ≡ shape)
 KindOk (Mux shape) = IsShape shape
 KindOk (Branch shape) = IsShape shape
 KindOk (Merge shape count) = IsShape shape × IsCount count

@@ -3,7 +3,7 @@ use Rattle.std.specs.Prelude.{◌≢◌, ℕ, Bool, not, IsTrue, List, [], ◌�
 use Rattle.std.specs.List.{list_any}
 use Rattle.std.specs.FinMap.{FinMap, from_entries}
 use Rattle.components.specs.declared.kind.Kind.{Kind}
-use Rattle.components.specs.declared.kind.Kind.TheVariants.{Entry, Exit, Buffer, Fork, Join, Split, Operator, Constant, Source0, Sink0, Mux, Branch, Merge, CtrlMerge, Init, Tagger}
+use Rattle.components.specs.declared.kind.Kind.TheVariants.{Entry, Exit, Buffer, Fork, Join, Split, Operator, Constant, Source0, Sink0, Pure, Mux, Branch, Merge, CtrlMerge, Init, Tagger}
 use Rattle.components.specs.declared.node.Node.{Node}
 use Rattle.components.specs.Name.{Name, name_cmp, IsName}
 use Rattle.components.specs.Kind.{KindOk}
@@ -20,6 +20,7 @@ row_keys (Operator op widths width) = codes "op" ∷ []
 row_keys (Constant shape width value) = codes "value" ∷ []
 row_keys (Source0 shape) = []
 row_keys (Sink0 shape) = []
+row_keys (Pure fun shape) = codes "fun" ∷ []
 row_keys (Mux shape) = []
 row_keys (Branch shape) = []
 row_keys (Merge shape count) = []

@@ -17,6 +17,7 @@ pub enum Component {
     Constant,
     Source,
     Sink,
+    Pure,
     Mux,
     Branch,
     Merge,
@@ -26,7 +27,7 @@ pub enum Component {
 }
 
 /// All components, in the order of the table.
-const ALL: [Component; 16] = [
+const ALL: [Component; 17] = [
     Component::Entry,
     Component::Exit,
     Component::Buffer,
@@ -37,6 +38,7 @@ const ALL: [Component; 16] = [
     Component::Constant,
     Component::Source,
     Component::Sink,
+    Component::Pure,
     Component::Mux,
     Component::Branch,
     Component::Merge,
@@ -60,6 +62,7 @@ pub fn component_at(kind: &Kind) -> Component
         Kind::Constant(..) => Component::Constant,
         Kind::Source0(_) => Component::Source,
         Kind::Sink0(_) => Component::Sink,
+        Kind::Pure(..) => Component::Pure,
         Kind::Mux(_) => Component::Mux,
         Kind::Branch(_) => Component::Branch,
         Kind::Merge(..) => Component::Merge,
@@ -84,6 +87,7 @@ pub fn word_of(component: Component) -> &'static str
         Component::Constant => "Constant",
         Component::Source => "Source",
         Component::Sink => "Sink",
+        Component::Pure => "Pure",
         Component::Mux => "Mux",
         Component::Branch => "Branch",
         Component::Merge => "Merge",

@@ -31,6 +31,7 @@ fn input_field(kind: &Kind, port: u8, index: usize) -> Option<u8>
         | Kind::Fork(shape, _)
         | Kind::Constant(shape, ..)
         | Kind::Sink0(shape) => field_in(shape, index),
+        Kind::Pure(fun, _) => field_in(&fun.input, index),
         Kind::Merge(shape, _) => field_in(shape, index),
         Kind::CtrlMerge(shape, ..) => field_in(shape, index),
         Kind::Join(shapes) => field_among(shapes.as_slice(), port, index),
@@ -69,6 +70,7 @@ fn output_field(kind: &Kind, port: u8, index: usize) -> Option<u8>
 {
     match kind {
         Kind::Fork(shape, _) => field_in(shape, index),
+        Kind::Pure(_, shape) => field_in(shape, index),
         Kind::Entry(shape)
         | Kind::Buffer(shape)
         | Kind::Source0(shape)

@@ -3,6 +3,7 @@ ghost use Rattle.std.specs.List.{concat};
 ghost use Rattle.port_types.specs.Shape.{IsShape};
 ghost use Rattle.components.specs.Kind.{ins, outs, ports, KindOk, AreParts, IsCount};
 
+use fun_expr::{Fun, check_fun};
 use op_table::{MAX_WIDTH, Op, typed_op};
 use port_types::{Items, MAX_FIELDS, Shape, Side, is_shape};
 
@@ -35,6 +36,8 @@ pub enum Kind {
     Source0(Shape),
     /// Drops each token: one input.
     Sink0(Shape),
+    /// Gives what the function gives for each token that it takes: the function, whose input is that of the node, and the shape of the output.
+    Pure(Fun, Shape),
     /// Takes the token of its second or of its third input, as the bit at the first input selects.
     Mux(Shape),
     /// Gives the token of its first input to one of two outputs, as the bit at the second input selects.
@@ -49,7 +52,7 @@ pub enum Kind {
     Tagger(Shape, u16),
 }
 
-/// Whether the kind meets its row of the table: its counts of ports, fields and tags are within the limits, and an Operator's widths are those of its operator.
+/// Whether the kind meets its row of the table: its counts of ports, fields and tags are within the limits, an Operator's widths are those of its operator, and a Pure has the output of its function.
 pub fn kind_ok(kind: &Kind) -> bool
     ensures { IsTrue result ↔ KindOk kind.now }
 {
@@ -67,6 +70,7 @@ pub fn kind_ok(kind: &Kind) -> bool
         Kind::Join(shapes) | Kind::Split(shapes) => are_parts(shapes.as_slice()),
         Kind::Operator(op, widths, width) => typed_op(*op, widths.as_slice(), *width),
         Kind::Constant(shape, width, _) => is_shape(shape.widths()) && *width <= MAX_WIDTH,
+        Kind::Pure(fun, shape) => is_shape(shape.widths()) && check_fun(fun, shape),
         Kind::CtrlMerge(shape, count, width) => {
             is_shape(shape.widths()) && is_count(*count) && tells_apart(*width, *count)
         }
@@ -136,6 +140,7 @@ pub fn inputs(kind: &Kind) -> u8
         | Kind::Split(_)
         | Kind::Constant(..)
         | Kind::Sink0(_)
+        | Kind::Pure(..)
         | Kind::Init(..) => 1,
         Kind::Branch(_) | Kind::Tagger(..) => 2,
         Kind::Mux(_) => 3,
@@ -158,6 +163,7 @@ pub fn outputs(kind: &Kind) -> u8
         | Kind::Operator(..)
         | Kind::Constant(..)
         | Kind::Source0(_)
+        | Kind::Pure(..)
         | Kind::Mux(_)
         | Kind::Merge(..)
         | Kind::Init(..) => 1,

@@ -20,8 +20,6 @@ mod node;
 mod owned;
 mod port_shapes;
 mod same;
-#[cfg(test)]
-mod tests;
 
 pub use component::{Component, component_at, component_of, word_of};
 pub use kept::kept_by_key;

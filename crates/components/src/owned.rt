@@ -21,6 +21,7 @@ fn names(kind: &Kind, key: &[u8]) -> bool
     match kind {
         Kind::Operator(..) => key == b"op".as_slice(),
         Kind::Constant(..) => key == b"value".as_slice(),
+        Kind::Pure(..) => key == b"fun".as_slice(),
         Kind::Init(..) => key == b"value".as_slice() || key == b"ooo".as_slice(),
         Kind::Tagger(..) => key == b"tags".as_slice(),
         Kind::Entry(_)

@@ -6,6 +6,7 @@ ghost use Rattle.components.specs.Node.{NodeOk, body_of};
 
 use crate::kind::Kind;
 use crate::node::Node;
+use fun_expr::same_fun;
 use port_types::{Items, Shape, Text};
 
 /// Whether two nodes are of one kind, with the same kept attributes in any order. Takes no memory.
@@ -17,7 +18,7 @@ pub fn same_body(a: &Node, b: &Node) -> bool
     same_kind(&a.kind, &b.kind) && same_kept(a.kept.as_slice(), b.kept.as_slice())
 }
 
-/// Whether two kinds are equal, with the same shapes, counts, widths and values. Takes no memory.
+/// Whether two kinds are equal, with the same shapes, counts, widths, values and functions. Takes no memory.
 pub fn same_kind(a: &Kind, b: &Kind) -> bool
     ensures { IsTrue result ↔ (a.now ≡ b.now) }
 {
@@ -41,6 +42,9 @@ pub fn same_kind(a: &Kind, b: &Kind) -> bool
         }
         (Kind::Constant(shape, width, value), Kind::Constant(other, other_width, other_value)) => {
             shape == other && width == other_width && value == other_value
+        }
+        (Kind::Pure(fun, shape), Kind::Pure(other_fun, other)) => {
+            same_fun(fun, other_fun) && shape == other
         }
         (Kind::CtrlMerge(shape, count, width), Kind::CtrlMerge(other, others, other_width)) => {
             shape == other && count == others && width == other_width

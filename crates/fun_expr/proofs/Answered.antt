@@ -25,7 +25,7 @@ use Rattle.fun_expr.proofs.Running.{Reader, reader, scans_whole, builds_whole}
 use Rattle.fun_expr.proofs.Complete.{grown_all, size_all, depth_all, held_out, parts, complete}
 use Rattle.fun_expr.proofs.Finishing.{scanned_text}
 
-abbrev start : Reader
+abbrev pub start : Reader
 start = reader Start 0 nothing_counted no_parts
 
 -- what is counted of a text and built of it
@@ -37,7 +37,7 @@ extent_is text x binds outs t h =
     same : {a b : Extent} → ◌≡◌ {A = Result Extent ℕ} (Ok a) (Ok b) → a ≡ b
     same e = cc
 
-built_is : (text : List ℕ) (binds : List Expr) (outs : List ℕ) → IsFunText text binds outs → built begin no_parts text ≡ parts [] (map held binds) (map held_out outs)
+pub built_is : (text : List ℕ) (binds : List Expr) (outs : List ℕ) → IsFunText text binds outs → built begin no_parts text ≡ parts [] (map held binds) (map held_out outs)
 built_is text binds outs t = let w = complete text binds outs t in builds_whole text start w.last w.is ∙ w.builds
 
 -- the limits
@@ -68,7 +68,7 @@ too_big text x h large =
 
 -- a function whose parts are held as they are
 module _ (tested : WidthsAreTested) (few : TypedWidths) where
-  is_read : (text input : List ℕ) (binds : List Expr) (outs : List ℕ) (f : Function) → IsFunText text binds outs → length input + length binds < 2 ^ 64 - 1 →
+  pub is_read : (text input : List ℕ) (binds : List Expr) (outs : List ℕ) (f : Function) → IsFunText text binds outs → length input + length binds < 2 ^ 64 - 1 →
       f ≡ function input (map held binds) (map held_out outs) → FunOk f → (f.input ≡ input) × IsFunText text f.binds f.outs
   is_read text input binds outs f t short e ok =
       let ok' : FunOk (function input (map held binds) (map held_out outs)) = subst FunOk e ok in
@@ -79,14 +79,21 @@ module _ (tested : WidthsAreTested) (few : TypedWidths) where
       let os : f.outs ≡ outs = ap (λ g. g.outs) e ∙ outs_same in
       (ap (λ g. g.input) e, subst (λ o. IsFunText text f.binds o) (sym os) (subst (λ b. IsFunText text b outs) (sym bs) t))
 
+  -- a function's parts are
+  pub binds_are : (f : Function) → length f.input + length f.binds < 2 ^ 64 - 1 → FunOk f → map held f.binds ≡ f.binds
+  binds_are f short ok = binds_held tested few f.input f.binds ok.typed.widths short ok.typed.binds
+
+  pub outs_are : (f : Function) → length f.input + length f.binds < 2 ^ 64 - 1 → FunOk f → map held_out f.outs ≡ f.outs
+  outs_are f short ok =
+      let count = fields_count f.input f.binds ok.typed.widths ok.typed.binds in
+      outs_held f.outs (length ok.typed.widths) (omega (arith, count, short)) ok.typed.outs
+
   is_typed : (input : List ℕ) (binds : List Expr) (outs : List ℕ) → IsShape input → IsWithin binds → length input + length binds < 2 ^ 64 - 1 → FunTyped (function input binds outs) → FunOk (function input (map held binds) (map held_out outs))
   unfolding fun_size
   is_typed input binds outs shape w short typed =
       let ok : FunOk (function input binds outs) = record { input = shape; typed = typed; size = w.size; depth = w.depth } in
-      let same = binds_held tested few input binds typed.widths short typed.binds in
-      let count = fields_count input binds typed.widths typed.binds in
-      let outs_same = outs_held outs (length typed.widths) (omega (arith, count, short)) typed.outs in
-      subst (λ o. FunOk (function input (map held binds) o)) (sym outs_same) (subst (λ b. FunOk (function input b outs)) (sym same) ok)
+      subst (λ o. FunOk (function input (map held binds) o)) (sym (outs_are (function input binds outs) short ok))
+      (subst (λ b. FunOk (function input b outs)) (sym (binds_are (function input binds outs) short ok)) ok)
 
   verdict : (text input : List ℕ) (binds : List Expr) (outs : List ℕ) → IsFunText text binds outs → IsShape input → IsWithin binds → length input + length binds < 2 ^ 64 - 1 →
       (r : Result Function FunFault) → Judged input (map held binds) (map held_out outs) r → Reads text input r

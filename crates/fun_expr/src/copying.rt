@@ -3,12 +3,12 @@ ghost use Rattle.std.specs.Prelude.{◌≡◌, ◌↔◌, IsTrue, IfOk};
 
 use crate::expr::Expr;
 use crate::fun::Fun;
-use port_types::{Items, NoMemory, same_shape};
+use port_types::{Items, same_shape};
 use sqlite_items::Items as Arguments;
-use std::alloc::Global;
+use std::alloc::{AllocError, Global};
 
 /// The same expression anew.
-fn copy_expr(alloc: Global, e: &Expr) -> Result<Expr, NoMemory>
+fn copy_expr(alloc: Global, e: &Expr) -> Result<Expr, AllocError>
     ensures { IfOk result (λ copy. copy ≡ e.now) }
 {
     match e {
@@ -26,7 +26,7 @@ fn copy_expr(alloc: Global, e: &Expr) -> Result<Expr, NoMemory>
 }
 
 /// The same binds anew.
-fn copy_binds(alloc: Global, binds: &[Expr]) -> Result<Vec<Expr>, NoMemory>
+fn copy_binds(alloc: Global, binds: &[Expr]) -> Result<Vec<Expr>, AllocError>
     ensures { IfOk result (λ copies. copies.items ≡ binds.now) }
 {
     let mut copies = Vec::new(alloc);
@@ -37,18 +37,19 @@ fn copy_binds(alloc: Global, binds: &[Expr]) -> Result<Vec<Expr>, NoMemory>
     Ok(copies)
 }
 
-/// The same function anew. The only error is want of memory.
-pub fn copy_fun(alloc: Global, fun: &Fun) -> Result<Fun, NoMemory>
-    ensures { IfOk result (λ copy. copy ≡ fun.now) }
-{
-    let binds = copy_binds(alloc, fun.binds.as_slice())?;
-    let outs = fun.outs.as_slice().to_vec(alloc)?;
-    let input = fun.input.clone()?;
-    Ok(Fun {
-        input,
-        binds: Items::new(binds),
-        outs: Items::new(outs),
-    })
+impl Clone for Fun {
+    ghost is_clone = { λ fun copy. copy ≡ fun };
+
+    fn clone(&self) -> Result<Fun, AllocError> {
+        let outs = self.outs.clone()?.into_vec();
+        let binds = copy_binds(*outs.allocator(), self.binds.as_slice())?;
+        let input = self.input.clone()?;
+        Ok(Fun {
+            input,
+            binds: Items::new(binds),
+            outs: Items::new(outs),
+        })
+    }
 }
 
 /// Whether two expressions are the same.

@@ -1,5 +1,7 @@
 //! Reading functions.
+ghost use Rattle.std.specs.Prelude.{IfOk};
 ghost use Rattle.port_types.specs.Shape.{IsShape};
+ghost use Rattle.fun_expr.specs.Function.{FunOk};
 ghost use Rattle.fun_expr.specs.FunReading.{Reads};
 ghost use Rattle.fun_expr.specs.Judging.{Judged};
 
@@ -36,7 +38,8 @@ fn judged(input: &Shape, binds: Vec<Expr>, outs: Vec<usize>) -> Result<Fun, FunF
 ///
 /// The other answer is want of memory.
 pub fn read_fun(alloc: Global, text: &[u8], input: &Shape) -> Result<Fun, FunFault>
-    ensures { Reads text.now input.now result }
+    ensures reads { Reads text.now input.now result }
+    ensures proper { IfOk result FunOk }
 {
     tests_are_the_table();
     typed_widths_are_few();

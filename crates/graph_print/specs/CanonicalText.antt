@@ -7,6 +7,7 @@ use Rattle.port_types.specs.declared.side.Side.TheVariants.{Ins, Outs}
 use Rattle.op_table.specs.declared.op.Op.{Op}
 use Rattle.op_table.specs.declared.op.Op.TheVariants.{Select}
 use Rattle.op_table.specs.Operator.{graph_word}
+use Rattle.fun_expr.specs.FunText.{fun_text}
 use Rattle.port_types.specs.declared.port.Port as printed_port
 use Rattle.port_types.specs.PortText.{side_word, port_name, marked_ports_text}
 use Rattle.dot_text.specs.Grammar.{Pair}
@@ -15,7 +16,7 @@ use Rattle.dot_text.specs.declared.doc.Doc.{Doc}
 use Rattle.dot_text.specs.declared.doc.DocNode.{DocNode}
 use Rattle.dot_text.specs.declared.doc.DocEdge.{DocEdge}
 use Rattle.components.specs.declared.kind.Kind.{Kind}
-use Rattle.components.specs.declared.kind.Kind.TheVariants.{Entry, Exit, Buffer, Fork, Join, Split, Operator, Constant, Source0, Sink0, Mux, Branch, Merge, CtrlMerge, Init, Tagger}
+use Rattle.components.specs.declared.kind.Kind.TheVariants.{Entry, Exit, Buffer, Fork, Join, Split, Operator, Constant, Source0, Sink0, Pure, Mux, Branch, Merge, CtrlMerge, Init, Tagger}
 use Rattle.components.specs.Component.{component_at, word_of}
 use Rattle.components.specs.Name.{Name, Port}
 use Rattle.components.specs.Kind.{Shape, ports}
@@ -51,6 +52,7 @@ own_pairs (Operator op widths width) = (codes "op", graph_word op) ∷ []
 own_pairs (Constant shape width value) = (codes "value", hexadecimal value) ∷ []
 own_pairs (Source0 shape) = []
 own_pairs (Sink0 shape) = []
+own_pairs (Pure fun shape) = (codes "fun", fun_text fun.binds fun.outs) ∷ []
 own_pairs (Mux shape) = []
 own_pairs (Branch shape) = []
 own_pairs (Merge shape count) = []
@@ -90,6 +92,7 @@ marker (Operator op widths width) Outs number = None
 marker (Constant shape width value) side number = None
 marker (Source0 shape) side number = None
 marker (Sink0 shape) side number = None
+marker (Pure fun shape) side number = None
 marker (Mux shape) Ins number = if number == 1 then condition else None
 marker (Mux shape) Outs number = None
 marker (Branch shape) Ins number = if number == 2 then condition else None

@@ -6,6 +6,7 @@ ghost use Rattle.graph_print.specs.CanonicalText.{own_pairs, marker, operand_mar
 
 use crate::texts::{push_pair, text_from};
 use components::Kind;
+use fun_expr::print_fun;
 use op_table::{Op, op_name};
 use port_types::{NoMemory, Side, Text};
 use std::alloc::Global;
@@ -33,6 +34,7 @@ pub(crate) fn marker(kind: &Kind, side: Side, number: u8) -> Option<u8>
             | Kind::Constant(..)
             | Kind::Source0(_)
             | Kind::Sink0(_)
+            | Kind::Pure(..)
             | Kind::Merge(..)
             | Kind::Init(..)
             | Kind::Tagger(..),
@@ -76,6 +78,7 @@ pub(crate) fn push_own(
             "value",
             hexadecimal(alloc, *value)?,
         ),
+        Kind::Pure(fun, _) => push_pair(alloc, pairs, "fun", print_fun(alloc, fun)?),
         Kind::Init(value, mark) => {
             push_pair(
                 alloc,

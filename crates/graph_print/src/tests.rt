@@ -4,6 +4,7 @@ ghost use Rattle.components.specs.Node.{KeptOk};
 
 use crate::text_of;
 use components::{Kind, Node, is_name, kept_by_key, kind_ok};
+use fun_expr::Fun;
 use graph_core::{Graph, PortAt};
 use op_table::Op;
 use port_types::{Items, Shape, Text};
@@ -11,7 +12,7 @@ use std::alloc::Global;
 use std::test::Fail;
 
 /// The pairs of a node of each kind.
-const KINDS: [&str; 16] = [
+const KINDS: [&str; 17] = [
     r#"type = "Entry", out = "out1:8""#,
     r#"type = "Exit", in = "in1:8""#,
     r#"type = "Buffer", in = "in1:8", out = "out1:8""#,
@@ -22,6 +23,7 @@ const KINDS: [&str; 16] = [
     r#"type = "Constant", in = "in1:8", out = "out1:0", value = "0xffffffffffffffff""#,
     r#"type = "Source", out = "out1:8""#,
     r#"type = "Sink", in = "in1:8""#,
+    r#"type = "Pure", in = "in1:8", out = "out1:8.8", fun = "-> #0 #0""#,
     r#"type = "Mux", in = "in1?:1 in2:8 in3:8", out = "out1:8""#,
     r#"type = "Branch", in = "in1:8 in2?:1", out = "out1+:8 out2-:8""#,
     r#"type = "Merge", in = "in1:8 in2:8", out = "out1:8""#,
@@ -29,6 +31,14 @@ const KINDS: [&str; 16] = [
     r#"type = "Init", in = "in1:1", out = "out1:1", value = "0x1", ooo = "1""#,
     r#"type = "Tagger", in = "in1:8 in2:8.8", out = "out1:8.8 out2:8", tags = "256""#,
 ];
+
+/// A Pure that gives its one field twice.
+fn pure(alloc: Global, shape: Shape) -> Result<Kind, Fail> {
+    let out = Shape::new(vec![in alloc; 8, 8]?).ok_or("no shape")?;
+    let (binds, outs) = (Vec::new(alloc), vec![in alloc; 0, 0]?);
+    let fun = Fun::new(shape, Items::new(binds), Items::new(outs)).ok_or("no function")?;
+    Ok(Kind::Pure(fun, out))
+}
 
 fn kind(alloc: Global, number: usize) -> Result<Kind, Fail> {
     let shape = Shape::new(vec![in alloc; 8]?).ok_or("no shape")?;
@@ -43,11 +53,12 @@ fn kind(alloc: Global, number: usize) -> Result<Kind, Fail> {
         7 => Kind::Constant(shape, 0, u64::MAX),
         8 => Kind::Source0(shape),
         9 => Kind::Sink0(shape),
-        10 => Kind::Mux(shape),
-        11 => Kind::Branch(shape),
-        12 => Kind::Merge(shape, 2),
-        13 => Kind::CtrlMerge(shape, 2, 1),
-        14 => Kind::Init(1, 1),
+        10 => pure(alloc, shape)?,
+        11 => Kind::Mux(shape),
+        12 => Kind::Branch(shape),
+        13 => Kind::Merge(shape, 2),
+        14 => Kind::CtrlMerge(shape, 2, 1),
+        15 => Kind::Init(1, 1),
         _ => Kind::Tagger(shape, 256),
     })
 }

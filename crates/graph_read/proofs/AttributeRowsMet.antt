@@ -10,6 +10,9 @@ use Rattle.op_table.specs.declared.op.Op.{Op}
 use Rattle.op_table.specs.Operator.{graph_word}
 use Rattle.op_table.specs.Table.{ops, op_named, is_typed_op}
 use Rattle.op_table.specs.Laws.{WidthsAreTested}
+use Rattle.fun_expr.specs.Function.{Function, out_widths}
+use Rattle.fun_expr.specs.Said.{fun_said}
+use Rattle.fun_expr.specs.Laws.{SaidByGrammar}
 use Rattle.port_types.specs.Shape.{IsShape}
 use Rattle.port_types.specs.Numeral.{numeral_value}
 use Rattle.port_types.specs.Tag.{tag_width}
@@ -19,9 +22,9 @@ use Rattle.components.specs.Kind.{Shape, field, tagged}
 use Rattle.components.specs.declared.component.Component.{Component}
 use Rattle.components.specs.declared.component.Component as component
 use Rattle.graph_read.specs.declared.fault.GraphFaultKind.{GraphFaultKind}
-use Rattle.graph_read.specs.declared.fault.GraphFaultKind.TheVariants.{BadPorts, BadOp, BadValue, BadTags}
+use Rattle.graph_read.specs.declared.fault.GraphFaultKind.TheVariants.{BadPorts, BadOp, BadValue, BadFun, BadTags}
 use Rattle.graph_read.specs.Attributes.{Pair, last_value, value_of, tags_within, tags_of}
-use Rattle.graph_read.specs.Rows.{Reading, all_are, are_fields, operator_at, operator_named, operator_typed, constant_at, constant_of, constant_with, init_at, init_with, init_marked, start_of, mark_of, tagger_at, tagger_of, tagger_with, row_reading}
+use Rattle.graph_read.specs.Rows.{Reading, all_are, are_fields, operator_at, operator_named, operator_typed, constant_at, constant_of, constant_with, pure_at, pure_of, pure_with, init_at, init_with, init_marked, start_of, mark_of, tagger_at, tagger_of, tagger_with, row_reading}
 use Rattle.graph_read.specs.Laws.{MeetsRow, AreRead}
 use Rattle.graph_read.proofs.Answers.{same_answer, refused}
 use Rattle.graph_read.proofs.RowsMet.{same_shape, same_shapes, becomes, entry-met, exit-met, buffer-met, fork-met, join-met, split-met, source-met, sink-met, mux-met, branch-met, merge-met, ctrl_merge-met}
@@ -113,6 +116,20 @@ module _ (k : Kind) where
       let found = valued_found shape width (value_of text) e in
       (found.0, (text, refl, found.1), found.2)
 
+  function_found : (out : Shape) (given : Option Function) → pure_with out given ≡ Ok k →
+      (fun : Function) × (given ≡ Some fun) × (out_widths fun ≡ out) × (kind.TheVariants.Pure fun out ≡ k)
+  function_found out None e = refused BadFun k e
+  function_found out (Some fun) e =
+      let found = if_read (bytes_eq (out_widths fun) out) (kind.TheVariants.Pure fun out) k BadFun e in
+      (fun, refl, same_shape (out_widths fun) out found.0, found.1)
+
+  pure_found : (shape out : Shape) (given : Option (List ℕ)) → pure_of shape out given ≡ Ok k →
+      (fun : Function) × ((text : List ℕ) × (given ≡ Some text) × (fun_said text shape ≡ Some fun)) × (out_widths fun ≡ out) × (kind.TheVariants.Pure fun out ≡ k)
+  pure_found shape out None e = refused BadFun k e
+  pure_found shape out (Some text) e =
+      let found = function_found out (fun_said text shape) e in
+      (found.0, (text, refl, found.1), found.2, found.3)
+
   marked_found : (value : ℕ) (given : Option ℕ) → init_marked value given ≡ Ok k → (mark : ℕ) × (given ≡ Some mark) × (kind.TheVariants.Init value mark ≡ k)
   marked_found value None e = refused BadTags k e
   marked_found value (Some mark) e = (mark, refl, same_answer (kind.TheVariants.Init value mark) k e)
@@ -158,6 +175,20 @@ module _ (k : Kind) where
         (record { is = refl; ok = (All-head IsShape shape [] read_in.each, narrow); ports = (refl, refl); says = found.1 })
     constant-met inputs outputs read_in read_out e = refused BadPorts k e
 
+    pub pure-met : SaidByGrammar → (inputs outputs : List Shape) → AreRead outputs → pure_at inputs outputs (last_value (codes "fun") pairs) ≡ Ok k → MeetsRow component.TheVariants.Pure inputs outputs pairs k
+    pure-met by_grammar (shape ∷ []) (out ∷ []) read_out e =
+        let found = pure_found shape out (last_value (codes "fun") pairs) e in
+        let fun = found.0 in
+        let said = (by_grammar found.1.0 shape fun).0 found.1.2 in
+        becomes component.TheVariants.Pure (shape ∷ []) (out ∷ []) pairs (kind.TheVariants.Pure fun out) k found.3
+        (record {
+          is = refl;
+          ok = (All-head IsShape out [] read_out.each, said.2, found.2);
+          ports = (ap (λ (s : Shape). s ∷ []) (sym said.0), refl);
+          says = (found.1.0, found.1.1, said.1);
+        })
+    pure-met by_grammar inputs outputs read_out e = refused BadPorts k e
+
     pub init-met : (inputs outputs : List Shape) → init_at inputs outputs (last_value (codes "value") pairs) (last_value (codes "ooo") pairs) ≡ Ok k → MeetsRow component.TheVariants.Init inputs outputs pairs k
     init-met (shape ∷ []) (out ∷ []) e =
         let start = last_value (codes "value") pairs in
@@ -195,21 +226,22 @@ module _ (k : Kind) where
     tagger-met inputs outputs read_in read_out e = refused BadPorts k e
 
 -- a kind that is read meets its row
-pub row_met : WidthsAreTested → (component : Component) (inputs outputs : List Shape) (pairs : List Pair) (k : Kind) → AreRead inputs → AreRead outputs →
+pub row_met : WidthsAreTested → SaidByGrammar → (component : Component) (inputs outputs : List Shape) (pairs : List Pair) (k : Kind) → AreRead inputs → AreRead outputs →
     row_reading component inputs outputs pairs ≡ Ok k → MeetsRow component inputs outputs pairs k
-row_met tested component.TheVariants.Entry inputs outputs pairs k read_in read_out e = entry-met pairs k inputs outputs read_out e
-row_met tested component.TheVariants.Exit inputs outputs pairs k read_in read_out e = exit-met pairs k inputs outputs read_in e
-row_met tested component.TheVariants.Buffer inputs outputs pairs k read_in read_out e = buffer-met pairs k inputs outputs read_in e
-row_met tested component.TheVariants.Fork inputs outputs pairs k read_in read_out e = fork-met pairs k inputs outputs read_in read_out e
-row_met tested component.TheVariants.Join inputs outputs pairs k read_in read_out e = join-met pairs k inputs outputs read_in read_out e
-row_met tested component.TheVariants.Split inputs outputs pairs k read_in read_out e = split-met pairs k inputs outputs read_in read_out e
-row_met tested component.TheVariants.Operator inputs outputs pairs k read_in read_out e = operator-met k pairs tested inputs outputs e
-row_met tested component.TheVariants.Constant inputs outputs pairs k read_in read_out e = constant-met k pairs inputs outputs read_in read_out e
-row_met tested component.TheVariants.Source inputs outputs pairs k read_in read_out e = source-met pairs k inputs outputs read_out e
-row_met tested component.TheVariants.Sink inputs outputs pairs k read_in read_out e = sink-met pairs k inputs outputs read_in e
-row_met tested component.TheVariants.Mux inputs outputs pairs k read_in read_out e = mux-met pairs k inputs outputs read_out e
-row_met tested component.TheVariants.Branch inputs outputs pairs k read_in read_out e = branch-met pairs k inputs outputs read_in e
-row_met tested component.TheVariants.Merge inputs outputs pairs k read_in read_out e = merge-met pairs k inputs outputs read_in read_out e
-row_met tested component.TheVariants.CtrlMerge inputs outputs pairs k read_in read_out e = ctrl_merge-met pairs k inputs outputs read_in read_out e
-row_met tested component.TheVariants.Init inputs outputs pairs k read_in read_out e = init-met k pairs inputs outputs e
-row_met tested component.TheVariants.Tagger inputs outputs pairs k read_in read_out e = tagger-met k pairs inputs outputs read_in read_out e
+row_met tested by_grammar component.TheVariants.Entry inputs outputs pairs k read_in read_out e = entry-met pairs k inputs outputs read_out e
+row_met tested by_grammar component.TheVariants.Exit inputs outputs pairs k read_in read_out e = exit-met pairs k inputs outputs read_in e
+row_met tested by_grammar component.TheVariants.Buffer inputs outputs pairs k read_in read_out e = buffer-met pairs k inputs outputs read_in e
+row_met tested by_grammar component.TheVariants.Fork inputs outputs pairs k read_in read_out e = fork-met pairs k inputs outputs read_in read_out e
+row_met tested by_grammar component.TheVariants.Join inputs outputs pairs k read_in read_out e = join-met pairs k inputs outputs read_in read_out e
+row_met tested by_grammar component.TheVariants.Split inputs outputs pairs k read_in read_out e = split-met pairs k inputs outputs read_in read_out e
+row_met tested by_grammar component.TheVariants.Operator inputs outputs pairs k read_in read_out e = operator-met k pairs tested inputs outputs e
+row_met tested by_grammar component.TheVariants.Constant inputs outputs pairs k read_in read_out e = constant-met k pairs inputs outputs read_in read_out e
+row_met tested by_grammar component.TheVariants.Source inputs outputs pairs k read_in read_out e = source-met pairs k inputs outputs read_out e
+row_met tested by_grammar component.TheVariants.Sink inputs outputs pairs k read_in read_out e = sink-met pairs k inputs outputs read_in e
+row_met tested by_grammar component.TheVariants.Pure inputs outputs pairs k read_in read_out e = pure-met k pairs by_grammar inputs outputs read_out e
+row_met tested by_grammar component.TheVariants.Mux inputs outputs pairs k read_in read_out e = mux-met pairs k inputs outputs read_out e
+row_met tested by_grammar component.TheVariants.Branch inputs outputs pairs k read_in read_out e = branch-met pairs k inputs outputs read_in e
+row_met tested by_grammar component.TheVariants.Merge inputs outputs pairs k read_in read_out e = merge-met pairs k inputs outputs read_in read_out e
+row_met tested by_grammar component.TheVariants.CtrlMerge inputs outputs pairs k read_in read_out e = ctrl_merge-met pairs k inputs outputs read_in read_out e
+row_met tested by_grammar component.TheVariants.Init inputs outputs pairs k read_in read_out e = init-met k pairs inputs outputs e
+row_met tested by_grammar component.TheVariants.Tagger inputs outputs pairs k read_in read_out e = tagger-met k pairs inputs outputs read_in read_out e

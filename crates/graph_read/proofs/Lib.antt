@@ -10,7 +10,6 @@ mod Joining
 mod OpenPorts
 mod NodeLists
 mod NodeSteps
-mod NoPure
 mod NodeRead
 mod ReadNodes
 mod ReadWires

@@ -9,13 +9,17 @@ use Rattle.op_table.specs.declared.op.Op.{Op}
 use Rattle.op_table.specs.Operator.{graph_word}
 use Rattle.op_table.specs.Table.{is_typed_op}
 use Rattle.op_table.specs.Laws.{NamesAreFound, WidthsAreTested}
+use Rattle.fun_expr.specs.Function.{Function, FunOk, out_widths}
+use Rattle.fun_expr.specs.FunGrammar.{IsFunText}
+use Rattle.fun_expr.specs.Said.{fun_said}
+use Rattle.fun_expr.specs.Laws.{SaidByGrammar}
 use Rattle.port_types.specs.Tag.{tag_width}
 use Rattle.components.specs.declared.kind.Kind.{Kind}
-use Rattle.components.specs.declared.kind.Kind.TheVariants.{Entry, Exit, Buffer, Fork, Join, Split, Operator, Constant, Source0, Sink0, Mux, Branch, Merge, CtrlMerge, Init, Tagger}
+use Rattle.components.specs.declared.kind.Kind.TheVariants.{Entry, Exit, Buffer, Fork, Join, Split, Operator, Constant, Source0, Sink0, Pure, Mux, Branch, Merge, CtrlMerge, Init, Tagger}
 use Rattle.components.specs.Kind.{Shape, KindOk, field, tagged}
 use Rattle.components.specs.declared.component.Component.{Component}
 use Rattle.graph_read.specs.Attributes.{Pair, last_value, value_of, tags_of}
-use Rattle.graph_read.specs.Rows.{where_ports, entry_at, exit_at, all_are, are_fields, fork_at, merge_at, ctrl_merge_at, operator_named, operator_typed, operator_at, constant_of, constant_with, init_with, init_marked, start_of, mark_of, tagger_of, tagger_with, row_reading}
+use Rattle.graph_read.specs.Rows.{where_ports, entry_at, exit_at, all_are, are_fields, fork_at, merge_at, ctrl_merge_at, operator_named, operator_typed, operator_at, constant_of, constant_with, pure_of, pure_with, init_with, init_marked, start_of, mark_of, tagger_of, tagger_with, row_reading}
 use Rattle.components.specs.Component.{component_at}
 use Rattle.graph_read.specs.Laws.{HasOwnPorts, MeetsRow, Says, RowsReadBack}
 
@@ -80,6 +84,12 @@ operator_back found op widths width typed =
 constant_back : (shape : Shape) (width value : ℕ) (given : Option (List ℕ)) → (text : List ℕ) × (given ≡ Some text) × (value_of text ≡ Some value) → constant_of shape width given ≡ Ok (Constant shape width value)
 constant_back shape width value given (text, is, says) = ap (constant_of shape width) is ∙ ap (constant_with shape width) says
 
+pure_back : SaidByGrammar → (fun : Function) (out : Shape) (given : Option (List ℕ)) → FunOk fun → out_widths fun ≡ out →
+    (text : List ℕ) × (given ≡ Some text) × IsFunText text fun.binds fun.outs → pure_of fun.input out given ≡ Ok (Pure fun out)
+pure_back by_grammar fun out given ok gives (text, is, says) =
+    ap (pure_of fun.input out) is ∙ ap (pure_with out) ((by_grammar text fun.input fun).1 (refl, says, ok))
+    ∙ ap (λ (b : Bool). cond b (Ok (Pure fun out)) (pure_with out None)) ((bytes_eq-Decides (out_widths fun) out).1 gives)
+
 start_back : (given : Option (List ℕ)) (value : ℕ) → ((given ≡ None) × (value ≡ 0)) ⊎ ((text : List ℕ) × (given ≡ Some text) × (value_of text ≡ Some value)) → start_of given ≡ Some value
 start_back given value (inl (none, is)) = ap start_of none ∙ ap (λ (n : ℕ). Some n) (sym is)
 start_back given value (inr (text, is, says)) = ap start_of is ∙ says
@@ -101,32 +111,33 @@ tagger_back shape tags given (text, is, says) =
 
 -- ---- all rows
 
-pub row_back : NamesAreFound → WidthsAreTested → RowsReadBack
-row_back found tested (Entry shape) pairs ok says = refl
-row_back found tested (Exit shape) pairs ok says = refl
-row_back found tested (Buffer shape) pairs ok says = where_right (bytes_eq shape shape) (Buffer shape) (same_test shape)
-row_back found tested (Fork shape count) pairs ok says = fork_back shape count ok.1.0
-row_back found tested (Join []) pairs ok says = absurd (omega (arith, ok.count.0))
-row_back found tested (Join (shape ∷ shapes)) pairs ok says =
+pub row_back : NamesAreFound → WidthsAreTested → SaidByGrammar → RowsReadBack
+row_back found tested by_grammar (Entry shape) pairs ok says = refl
+row_back found tested by_grammar (Exit shape) pairs ok says = refl
+row_back found tested by_grammar (Buffer shape) pairs ok says = where_right (bytes_eq shape shape) (Buffer shape) (same_test shape)
+row_back found tested by_grammar (Fork shape count) pairs ok says = fork_back shape count ok.1.0
+row_back found tested by_grammar (Join []) pairs ok says = absurd (omega (arith, ok.count.0))
+row_back found tested by_grammar (Join (shape ∷ shapes)) pairs ok says =
     where_right (bytes_eq (concat (shape ∷ shapes)) (concat (shape ∷ shapes))) (Join (shape ∷ shapes)) (same_test (concat (shape ∷ shapes)))
-row_back found tested (Split []) pairs ok says = absurd (omega (arith, ok.count.0))
-row_back found tested (Split (shape ∷ shapes)) pairs ok says =
+row_back found tested by_grammar (Split []) pairs ok says = absurd (omega (arith, ok.count.0))
+row_back found tested by_grammar (Split (shape ∷ shapes)) pairs ok says =
     where_right (bytes_eq (concat (shape ∷ shapes)) (concat (shape ∷ shapes))) (Split (shape ∷ shapes)) (same_test (concat (shape ∷ shapes)))
-row_back found tested (Operator op widths width) pairs ok says =
+row_back found tested by_grammar (Operator op widths width) pairs ok says =
     ap (operator_at (map field widths) (field width ∷ [])) says ∙ operator_back found op widths width ((tested op widths width).1 ok)
-row_back found tested (Constant shape width value) pairs ok says = constant_back shape width value (last_value (codes "value") pairs) says
-row_back found tested (Source0 shape) pairs ok says = refl
-row_back found tested (Sink0 shape) pairs ok says = refl
-row_back found tested (Mux shape) pairs ok says =
+row_back found tested by_grammar (Constant shape width value) pairs ok says = constant_back shape width value (last_value (codes "value") pairs) says
+row_back found tested by_grammar (Source0 shape) pairs ok says = refl
+row_back found tested by_grammar (Sink0 shape) pairs ok says = refl
+row_back found tested by_grammar (Pure fun shape) pairs ok says = pure_back by_grammar fun shape (last_value (codes "fun") pairs) ok.1 ok.2 says
+row_back found tested by_grammar (Mux shape) pairs ok says =
     where_right (bytes_eq (field 1) (field 1) && all_are shape (shape ∷ shape ∷ [])) (Mux shape) (and_from (bytes_eq (field 1) (field 1)) (all_are shape (shape ∷ shape ∷ [])) refl (all_same shape 2))
-row_back found tested (Branch shape) pairs ok says =
+row_back found tested by_grammar (Branch shape) pairs ok says =
     where_right (bytes_eq (field 1) (field 1) && all_are shape (shape ∷ shape ∷ [])) (Branch shape) (and_from (bytes_eq (field 1) (field 1)) (all_are shape (shape ∷ shape ∷ [])) refl (all_same shape 2))
-row_back found tested (Merge shape count) pairs ok says = merge_back shape count ok.1.0
-row_back found tested (CtrlMerge shape count width) pairs ok says = ctrl_merge_back shape count width ok.1.0 ok.3
-row_back found tested (Init value mark) pairs ok says =
+row_back found tested by_grammar (Merge shape count) pairs ok says = merge_back shape count ok.1.0
+row_back found tested by_grammar (CtrlMerge shape count width) pairs ok says = ctrl_merge_back shape count width ok.1.0 ok.3
+row_back found tested by_grammar (Init value mark) pairs ok says =
     init_back value mark (start_of (last_value (codes "value") pairs)) (last_value (codes "ooo") pairs) ok.0
     (start_back (last_value (codes "value") pairs) value says.0) (mark_back (last_value (codes "ooo") pairs) mark says.1)
-row_back found tested (Tagger shape tags) pairs ok says =
+row_back found tested by_grammar (Tagger shape tags) pairs ok says =
     let tests = and_from (all_are shape (shape ∷ shape ∷ [])) (bytes_eq (tagged tags shape) (tagged tags shape)) (all_same shape 2) (same_test (tagged tags shape)) in
     ap (λ (b : Bool). cond b (tagger_of shape (tag_width tags) (last_value (codes "tags") pairs)) (where_ports false (Tagger shape tags))) tests
     ∙ tagger_back shape tags (last_value (codes "tags") pairs) says
@@ -141,9 +152,9 @@ exit_also : (shape : Shape) (inputs outputs : List Shape) → (inputs ≡ shape 
 exit_also shape inputs outputs (is, inl none) = (λ i. exit_at (is i) (none i))
 exit_also shape inputs outputs (is, inr some) = (λ i. exit_at (is i) (some i)) ∙ where_right (bytes_eq shape shape) (Exit shape) (same_test shape)
 
-module _ (found : NamesAreFound) (tested : WidthsAreTested) (component : Component) (inputs outputs : List Shape) (pairs : List Pair) where
+module _ (found : NamesAreFound) (tested : WidthsAreTested) (by_grammar : SaidByGrammar) (component : Component) (inputs outputs : List Shape) (pairs : List Pair) where
   row_at : (k : Kind) → component ≡ component_at k → HasOwnPorts k inputs outputs → KindOk k → Says k pairs → row_reading component inputs outputs pairs ≡ Ok k
-  row_at k is ports ok says = (λ i. row_reading (is i) (ports.0 i) (ports.1 i) pairs) ∙ row_back found tested k pairs ok says
+  row_at k is ports ok says = (λ i. row_reading (is i) (ports.0 i) (ports.1 i) pairs) ∙ row_back found tested by_grammar k pairs ok says
 
   pub row_meets : (k : Kind) → MeetsRow component inputs outputs pairs k → row_reading component inputs outputs pairs ≡ Ok k
   row_meets (Entry shape) meets = ap (λ (c : Component). row_reading c inputs outputs pairs) meets.is ∙ entry_also shape inputs outputs meets.ports
@@ -156,6 +167,7 @@ module _ (found : NamesAreFound) (tested : WidthsAreTested) (component : Compone
   row_meets (Constant shape width value) meets = row_at (Constant shape width value) meets.is meets.ports meets.ok meets.says
   row_meets (Source0 shape) meets = row_at (Source0 shape) meets.is meets.ports meets.ok meets.says
   row_meets (Sink0 shape) meets = row_at (Sink0 shape) meets.is meets.ports meets.ok meets.says
+  row_meets (Pure fun shape) meets = row_at (Pure fun shape) meets.is meets.ports meets.ok meets.says
   row_meets (Mux shape) meets = row_at (Mux shape) meets.is meets.ports meets.ok meets.says
   row_meets (Branch shape) meets = row_at (Branch shape) meets.is meets.ports meets.ok meets.says
   row_meets (Merge shape count) meets = row_at (Merge shape count) meets.is meets.ports meets.ok meets.says

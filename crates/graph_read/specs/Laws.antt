@@ -2,9 +2,11 @@
 use Rattle.std.specs.Prelude.{◌≡◌, ◌↔◌, ◌⊎◌, ℕ, ◌^◌, ◌<◌, ◌≤◌, false, List, [], ◌∷◌, ◌++◌, length, Some, None, Ok, All, codes}
 use Rattle.std.specs.Fmt.{decimal, digits}
 use Rattle.op_table.specs.Operator.{graph_word}
+use Rattle.fun_expr.specs.FunGrammar.{IsFunText}
+use Rattle.fun_expr.specs.Function.{Function}
 use Rattle.port_types.specs.Shape.{IsShape}
 use Rattle.components.specs.declared.kind.Kind.{Kind}
-use Rattle.components.specs.declared.kind.Kind.TheVariants.{Entry, Exit, Buffer, Fork, Join, Split, Operator, Constant, Source0, Sink0, Mux, Branch, Merge, CtrlMerge, Init, Tagger}
+use Rattle.components.specs.declared.kind.Kind.TheVariants.{Entry, Exit, Buffer, Fork, Join, Split, Operator, Constant, Source0, Sink0, Pure, Mux, Branch, Merge, CtrlMerge, Init, Tagger}
 use Rattle.components.specs.Kind.{Shape, ins, outs, KindOk}
 use Rattle.components.specs.declared.component.Component.{Component}
 use Rattle.components.specs.Component.{component_at}
@@ -27,6 +29,7 @@ HasPorts (Operator op widths width) inputs outputs = HasOwnPorts (Operator op wi
 HasPorts (Constant shape width value) inputs outputs = HasOwnPorts (Constant shape width value) inputs outputs
 HasPorts (Source0 shape) inputs outputs = HasOwnPorts (Source0 shape) inputs outputs
 HasPorts (Sink0 shape) inputs outputs = HasOwnPorts (Sink0 shape) inputs outputs
+HasPorts (Pure fun shape) inputs outputs = HasOwnPorts (Pure fun shape) inputs outputs
 HasPorts (Mux shape) inputs outputs = HasOwnPorts (Mux shape) inputs outputs
 HasPorts (Branch shape) inputs outputs = HasOwnPorts (Branch shape) inputs outputs
 HasPorts (Merge shape count) inputs outputs = HasOwnPorts (Merge shape count) inputs outputs
@@ -41,6 +44,10 @@ SaysValue pairs value = (text : List ℕ) × (last_value (codes "value") pairs �
 -- the pairs say this number of tags under a key
 abbrev pub SaysTags : List ℕ → List Pair → ℕ → Type 0
 SaysTags key pairs tags = (text : List ℕ) × (last_value key pairs ≡ Some text) × (tags_of text ≡ Some tags)
+
+-- the pairs say this function, by the grammar of functions
+abbrev pub SaysFunction : List Pair → Function → Type 0
+SaysFunction pairs fun = (text : List ℕ) × (last_value (codes "fun") pairs ≡ Some text) × IsFunText text fun.binds fun.outs
 
 -- an absent attribute says 0
 abbrev pub IsAbsent : List ℕ → List Pair → ℕ → Type 0
@@ -58,6 +65,7 @@ Says (Operator op widths width) pairs = last_value (codes "op") pairs ≡ Some (
 Says (Constant shape width value) pairs = SaysValue pairs value
 Says (Source0 shape) pairs = Unit {0}
 Says (Sink0 shape) pairs = Unit {0}
+Says (Pure fun shape) pairs = SaysFunction pairs fun
 Says (Mux shape) pairs = Unit {0}
 Says (Branch shape) pairs = Unit {0}
 Says (Merge shape count) pairs = Unit {0}

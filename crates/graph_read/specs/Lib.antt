@@ -1,6 +1,5 @@
 pub mod Attributes
 pub mod Rows
-pub mod Pure
 pub mod GraphLaws
 pub mod NodeReading
 pub mod Answers

@@ -3,14 +3,16 @@ use Rattle.std.specs.Prelude.{ℕ, ◌^◌, Bool, ◌&&◌, ◌==◌, nat_le, Li
 use Rattle.std.specs.List.{list_all, concat}
 use Rattle.op_table.specs.declared.op.Op.{Op}
 use Rattle.op_table.specs.Table.{op_named, is_typed_op}
+use Rattle.fun_expr.specs.Function.{Function, out_widths}
+use Rattle.fun_expr.specs.Said.{fun_said}
 use Rattle.port_types.specs.Tag.{tag_width}
 use Rattle.components.specs.declared.kind.Kind.{Kind}
 use Rattle.components.specs.declared.kind.Kind as kind
 use Rattle.components.specs.Kind.{Shape, field}
 use Rattle.components.specs.declared.component.Component.{Component}
-use Rattle.components.specs.declared.component.Component.TheVariants.{Entry, Exit, Buffer, Fork, Join, Split, Operator, Constant, Source, Sink, Mux, Branch, Merge, CtrlMerge, Init, Tagger}
+use Rattle.components.specs.declared.component.Component.TheVariants.{Entry, Exit, Buffer, Fork, Join, Split, Operator, Constant, Source, Sink, Pure, Mux, Branch, Merge, CtrlMerge, Init, Tagger}
 use Rattle.graph_read.specs.declared.fault.GraphFaultKind.{GraphFaultKind}
-use Rattle.graph_read.specs.declared.fault.GraphFaultKind.TheVariants.{BadPorts, BadOp, BadValue, BadTags}
+use Rattle.graph_read.specs.declared.fault.GraphFaultKind.TheVariants.{BadPorts, BadOp, BadValue, BadFun, BadTags}
 use Rattle.graph_read.specs.Attributes.{Pair, last_value, value_of, tags_of}
 
 abbrev pub Reading : Type 0
@@ -110,6 +112,19 @@ abbrev pub constant_at : List Shape → List Shape → Option (List ℕ) → Rea
 constant_at (shape ∷ []) ((width ∷ []) ∷ []) value = constant_of shape width value
 constant_at _ _ value = Err BadPorts
 
+abbrev pub pure_with : Shape → Option Function → Reading
+pure_with out None = Err BadFun
+pure_with out (Some fun) = if bytes_eq (out_widths fun) out then Ok (kind.TheVariants.Pure fun out) else Err BadFun
+
+-- the text says a function of the input, which gives the output
+abbrev pub pure_of : Shape → Shape → Option (List ℕ) → Reading
+pure_of shape out None = Err BadFun
+pure_of shape out (Some text) = pure_with out (fun_said text shape)
+
+abbrev pub pure_at : List Shape → List Shape → Option (List ℕ) → Reading
+pure_at (shape ∷ []) (out ∷ []) fun = pure_of shape out fun
+pure_at _ _ fun = Err BadPorts
+
 -- the mark of an Init, 0 where it has none
 abbrev pub init_marked : ℕ → Option ℕ → Reading
 init_marked value None = Err BadTags
@@ -158,6 +173,7 @@ row_reading Operator ins outs pairs = operator_at ins outs (last_value (codes "o
 row_reading Constant ins outs pairs = constant_at ins outs (last_value (codes "value") pairs)
 row_reading Source ins outs pairs = source_at ins outs
 row_reading Sink ins outs pairs = sink_at ins outs
+row_reading Pure ins outs pairs = pure_at ins outs (last_value (codes "fun") pairs)
 row_reading Mux ins outs pairs = mux_at ins outs
 row_reading Branch ins outs pairs = branch_at ins outs
 row_reading Merge ins outs pairs = merge_at ins outs

@@ -1,15 +1,17 @@
 //! The rows of the components with attributes of their own: the kind that ports of these shapes and the pairs of a node say.
-ghost use Rattle.std.specs.Prelude.{◌≡◌, Some, codes};
+ghost use Rattle.std.specs.Prelude.{◌≡◌, Some, codes, MatchResult};
 ghost use Rattle.components.specs.Kind.{Shape};
+ghost use Rattle.fun_expr.specs.Said.{fun_said};
 ghost use Rattle.graph_read.specs.Answers.{IsRead};
 ghost use Rattle.graph_read.specs.Attributes.{last_value};
-ghost use Rattle.graph_read.specs.Rows.{operator_at, operator_named, constant_at, constant_of, init_at, init_with, start_of, mark_of, tagger_at, tagger_of};
+ghost use Rattle.graph_read.specs.Rows.{operator_at, operator_named, constant_at, constant_of, pure_at, pure_of, init_at, init_with, start_of, mark_of, tagger_at, tagger_of};
 
 use crate::attributes::{last_value, tags_of, value_of};
-use crate::fault::GraphFaultKind::{BadOp, BadPorts, BadTags, BadValue};
+use crate::fault::GraphFaultKind::{BadFun, BadOp, BadPorts, BadTags, BadValue};
 use crate::fault::StatementFault::{self, Refused};
 use crate::shapes::{are_fields, copy_of, is_bit, is_same, joined};
 use components::Kind;
+use fun_expr::{Fun, FunFault, check_fun, read_fun, said_by_grammar};
 use op_table::{op_of, typed_op};
 use port_types::{Items, Shape, Text, tag_width};
 use std::alloc::Global;
@@ -79,6 +81,50 @@ fn constant_of(
     match value_of(text) {
         Some(value) => Ok(Kind::Constant(copy_of(shape)?, width, value)),
         None => Err(Refused(BadValue)),
+    }
+}
+
+/// A Pure needs a `fun` that takes its input and gives its output.
+pub(crate) fn pure_at(
+    alloc: Global,
+    ins: &[Shape],
+    outs: &[Shape],
+    pairs: &[(Text, Text)],
+) -> Result<Kind, StatementFault>
+    ensures { IsRead (pure_at ins.now outs.now (last_value (codes "fun") pairs.now)) result }
+{
+    match (ins, outs) {
+        ([shape], [out]) => pure_of(alloc, shape, out, pairs),
+        _ => Err(Refused(BadPorts)),
+    }
+}
+
+fn pure_of(
+    alloc: Global,
+    shape: &Shape,
+    out: &Shape,
+    pairs: &[(Text, Text)],
+) -> Result<Kind, StatementFault>
+    ensures { IsRead (pure_of shape.now out.now (last_value (codes "fun") pairs.now)) result }
+{
+    let Some(text) = last_value(b"fun", pairs) else {
+        return Err(Refused(BadFun));
+    };
+    match fun_in(alloc, text, shape)? {
+        Some(fun) if check_fun(&fun, out) => Ok(Kind::Pure(fun, copy_of(out)?)),
+        _ => Err(Refused(BadFun)),
+    }
+}
+
+/// The function that the text says for this input, if it says one. The only error is want of memory.
+fn fun_in(alloc: Global, text: &[u8], input: &Shape) -> Result<Option<Fun>, StatementFault>
+    ensures { MatchResult result (λ fun. fun ≡ fun_said text.now input.now) (λ fault. fault ≡ StatementFault.NoMemory) }
+{
+    said_by_grammar();
+    match read_fun(alloc, text, input) {
+        Ok(fun) => Ok(Some(fun)),
+        Err(FunFault::NoMemory) => Err(StatementFault::NoMemory),
+        Err(_) => Ok(None),
     }
 }
 

@@ -1,7 +1,8 @@
 //! Laws of what is read: of rows, of numbers, and of whole graphs.
 ghost use Rattle.graph_read.specs.Laws.{RowsAreMet, RowsReadBack, DecimalValues, HexadecimalValues, DecimalTags};
-ghost use Rattle.graph_read.specs.GraphLaws.{ReadIsTyped, ReadHasAllowedNames, ReadHasNoPure};
+ghost use Rattle.graph_read.specs.GraphLaws.{ReadIsTyped, ReadHasAllowedNames};
 
+use fun_expr::said_by_grammar;
 use op_table::tests_are_the_table;
 use port_types::{numerals_tell_numbers, reads_ports};
 
@@ -10,6 +11,7 @@ pub fn rows_are_met()
     ensures { RowsAreMet }
 {
     tests_are_the_table();
+    said_by_grammar();
 }
 
 /// The ports and attributes of a kind read as the kind.
@@ -17,6 +19,7 @@ pub fn rows_read_back()
     ensures { RowsReadBack }
 {
     tests_are_the_table();
+    said_by_grammar();
 }
 
 /// Values and numbers of tags read as they are written.
@@ -28,12 +31,10 @@ pub fn numbers_read_back()
     numerals_tell_numbers();
 }
 
-/// A graph that is read is typed and within the limits, its names are allowed where the document's texts are UTF-8, and no node of
-/// its document applies a function.
+/// A graph that is read is typed and within the limits, and its names are allowed where the document's texts are UTF-8.
 pub fn read_graphs_are_typed()
     ensures typed { ReadIsTyped }
     ensures named { ReadHasAllowedNames }
-    ensures no_pure { ReadHasNoPure }
 {
     reads_ports();
     rows_are_met();

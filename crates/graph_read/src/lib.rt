@@ -2,7 +2,6 @@
 //!
 //! - `graph_of`: the graph of a document, or its first refusal.
 //! - `GraphRefusal`: what is refused and where; `GraphFaultKind`: why.
-//! - `has_pure`: whether a node applies a function, which is not read yet.
 //! - `rows_are_met`, `rows_read_back`, `numbers_read_back`, `read_graphs_are_typed`: laws of what is read.
 //!
 //! Of `digraph { a [type=Entry, out="out1:8"] z [type=Exit, in="in1:8"] a -> z [from=out1, to=in1] }` the graph has two
@@ -20,7 +19,6 @@ mod node;
 mod nodes;
 mod open;
 mod plain_rows;
-mod pure;
 mod rows;
 mod shapes;
 #[cfg(test)]
@@ -29,4 +27,3 @@ mod tests;
 pub use fault::{GraphFault, GraphFaultKind, GraphRefusal};
 pub use graph::graph_of;
 pub use laws::{numbers_read_back, read_graphs_are_typed, rows_are_met, rows_read_back};
-pub use pure::has_pure;

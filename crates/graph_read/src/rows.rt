@@ -3,7 +3,7 @@ ghost use Rattle.std.specs.Prelude.{◌≤◌, length};
 ghost use Rattle.graph_read.specs.Answers.{IsRead};
 ghost use Rattle.graph_read.specs.Rows.{row_reading};
 
-use crate::attribute_rows::{constant_at, init_at, operator_at, tagger_at};
+use crate::attribute_rows::{constant_at, init_at, operator_at, pure_at, tagger_at};
 use crate::fault::StatementFault;
 use crate::plain_rows::{
     branch_at, buffer_at, ctrl_merge_at, entry_at, exit_at, fork_at, join_at, merge_at, mux_at,
@@ -14,7 +14,7 @@ use port_types::{Shape, Text};
 use std::alloc::Global;
 
 /// The kind of a component with ports of these shapes, at most 64 a side, and these attributes. Refused as `BadPorts`
-/// where the ports are not those of the row, and then as `BadOp`, `BadValue` or `BadTags` where an attribute is not.
+/// where the ports are not those of the row, and then as `BadOp`, `BadValue`, `BadFun` or `BadTags` where an attribute is not.
 pub(crate) fn kind_at(
     alloc: Global,
     component: Component,
@@ -37,6 +37,7 @@ pub(crate) fn kind_at(
         Component::Constant => constant_at(alloc, ins, outs, pairs),
         Component::Source => source_at(alloc, ins, outs),
         Component::Sink => sink_at(alloc, ins, outs),
+        Component::Pure => pure_at(alloc, ins, outs, pairs),
         Component::Mux => mux_at(alloc, ins, outs),
         Component::Branch => branch_at(alloc, ins, outs),
         Component::Merge => merge_at(alloc, ins, outs),

@@ -1,6 +1,6 @@
 use crate::attributes::{tags_of, value_of};
 use crate::node::{has_allowed_name, read_node};
-use crate::{GraphFault, graph_of, has_pure};
+use crate::{GraphFault, graph_of};
 use components::Node;
 use dot_text::{Doc, read_doc};
 use graph_core::PortAt;
@@ -10,7 +10,7 @@ use std::test::Fail;
 
 /// The pairs of a node => its kind and what it keeps, or why it is refused, as `Debug` writes them. Where two
 /// refusals hold, the one that comes first is wanted.
-const READINGS: [&str; 36] = [
+const READINGS: [&str; 42] = [
     r#"type=Entry, out="out1:4.32" => Entry(Shape { widths: [4, 32] })"#,
     r#"type=Exit, in="in1:8" => Exit(Shape { widths: [8] })"#,
     r#"type=Exit, in="in1:8", out="out1:8" => Exit(Shape { widths: [8] })"#,
@@ -22,6 +22,7 @@ const READINGS: [&str; 36] = [
     r#"type=Constant, in="in1:0", out="out1:8", value="0x1F" => Constant(Shape { widths: [0] }, 8, 31)"#,
     r#"type=Source, out="out1:8" => Source0(Shape { widths: [8] })"#,
     r#"type=Sink, in="in1:8" => Sink0(Shape { widths: [8] })"#,
+    r##"type=Pure, in="in1:8.4", out="out1:4", fun="-> #1" => Pure(Fun { input: Shape { widths: [8, 4] }, binds: Items { items: [] }, outs: Items { items: [1] } }, Shape { widths: [4] })"##,
     r#"type=Mux, in="in1:1 in2:8 in3:8", out="out1:8" => Mux(Shape { widths: [8] })"#,
     r#"type=Branch, in="in1:8 in2:1", out="out1:8 out2:8" => Branch(Shape { widths: [8] })"#,
     r#"type=Merge, in="in1:8", out="out1:8" => Merge(Shape { widths: [8] }, 1)"#,
@@ -43,6 +44,11 @@ const READINGS: [&str; 36] = [
     r#"type=Operator, in="in1:8.8", out="out1:8", op=x => Refused(BadPorts)"#,
     r#"type=Operator, in="in1:8 in2:9", out="out1:8", op=add_op => Refused(BadOp)"#,
     r#"type=Constant, in="in1:0", out="out1:8" => Refused(BadValue)"#,
+    r##"type=Pure, in="in1:8", out="out1:8 out2:8", fun="-> #0" => Refused(BadPorts)"##,
+    r#"type=Pure, in="in1:8", out="out1:8" => Refused(BadFun)"#,
+    r##"type=Pure, in="in1:8", out="out1:8", fun="-> #0 " => Refused(BadFun)"##,
+    r##"type=Pure, in="in1:8", out="out1:8", fun="-> #1" => Refused(BadFun)"##,
+    r##"type=Pure, in="in1:8", out="out1:9", fun="-> #0" => Refused(BadFun)"##,
     r#"type=Init, in="in1:1", out="out1:1", value=2, ooo=0 => Refused(BadValue)"#,
     r#"type=Init, in="in1:1", out="out1:1", ooo=0 => Refused(BadTags)"#,
     r#"type=Tagger, in="in1:8 in2:8", out="out1:8 out2:8", tags=x => Refused(BadPorts)"#,
@@ -219,14 +225,5 @@ fn graph(rt: HostRuntime) -> Result<(), Fail> {
     let source = g.wire_into(PortAt { node, port: 1 }).ok_or("no wire")?;
     assert_eq!(rt; (g.slots(), node.index()), (2, 1));
     assert_eq!(rt; (source.node.index(), source.port), (0, 1));
-    Ok(())
-}
-
-#[test]
-fn applied_functions(rt: HostRuntime) -> Result<(), Fail> {
-    let doc = doc_of(rt.alloc(), "a [type=Entry] p [type=Sink, type=Pure]")?;
-    assert!(rt; has_pure(&doc));
-    let doc = doc_of(rt.alloc(), "p [type=Pure, type=Sink] Pure [kind=Pure]")?;
-    assert!(rt; !has_pure(&doc));
     Ok(())
 }

@@ -2,11 +2,13 @@
 use Rattle.std.proofs.Common.{◌≡◌, inl, inr, ℕ, zero, suc, true, false, cond, ◌||◌, List, Some, Ok, Err, codes, decimal, refl, ap, ◌∙◌, arith}
 use Rattle.std.specs.FinMap as map
 use Rattle.op_table.specs.Operator.{graph_word}
+use Rattle.fun_expr.specs.FunText.{fun_text}
+use Rattle.fun_expr.specs.Laws.{PrintedIsText}
 use Rattle.port_types.specs.declared.side.Side.{Side}
 use Rattle.port_types.specs.declared.side.Side.TheVariants.{Ins, Outs}
 use Rattle.port_types.specs.PortLaws.{ReadsPorts, ReadsBack}
 use Rattle.components.specs.declared.kind.Kind.{Kind}
-use Rattle.components.specs.declared.kind.Kind.TheVariants.{Entry, Exit, Buffer, Fork, Join, Split, Operator, Constant, Source0, Sink0, Mux, Branch, Merge, CtrlMerge, Init, Tagger}
+use Rattle.components.specs.declared.kind.Kind.TheVariants.{Entry, Exit, Buffer, Fork, Join, Split, Operator, Constant, Source0, Sink0, Pure, Mux, Branch, Merge, CtrlMerge, Init, Tagger}
 use Rattle.components.specs.Kind.{KindOk}
 use Rattle.components.specs.Node.{Body, IsOwned, is_owned}
 use Rattle.components.specs.Laws.{PortsAreShapes}
@@ -24,7 +26,7 @@ use Rattle.read_back.proofs.PortsBack.{ports_read, ports_starless}
 abbrev SayOwned : Kind → List Pair → Type 0
 SayOwned kind pairs = (key : List ℕ) → is_owned kind key ≡ true → last_value key pairs ≡ last_value key (front kind)
 
--- what ensures that texts of numbers and ports are read
+-- what ensures that texts of numbers, ports and functions are read
 pub record ReadingLaws : Type 0 where
   pub words : WordsReadBack
   pub shapes : PortsAreShapes
@@ -33,6 +35,7 @@ pub record ReadingLaws : Type 0 where
   pub rows : RowsReadBack
   pub values : HexadecimalValues
   pub tags : DecimalTags
+  pub functions : PrintedIsText
 
 module _ (laws : ReadingLaws) where
   says_own : (kind : Kind) (pairs : List Pair) → KindOk kind → ValueFits kind → SayOwned kind pairs → Says kind pairs
@@ -47,6 +50,8 @@ module _ (laws : ReadingLaws) where
       (hexadecimal value, say (codes "value") refl ∙ front_own (Constant shape width value) (codes "value") (hexadecimal value) refl, laws.values value fits)
   says_own (Source0 shape) pairs ok fits say = tt
   says_own (Sink0 shape) pairs ok fits say = tt
+  says_own (Pure fun shape) pairs ok fits say =
+      (fun_text fun.binds fun.outs, say (codes "fun") refl ∙ front_own (Pure fun shape) (codes "fun") (fun_text fun.binds fun.outs) refl, laws.functions fun ok.1)
   says_own (Mux shape) pairs ok fits say = tt
   says_own (Branch shape) pairs ok fits say = tt
   says_own (Merge shape count) pairs ok fits say = tt

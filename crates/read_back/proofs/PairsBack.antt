@@ -12,7 +12,7 @@ use Rattle.port_types.specs.declared.side.Side.{Side}
 use Rattle.port_types.specs.declared.side.Side.TheVariants.{Ins, Outs}
 use Rattle.port_types.specs.PortText.{side_word, marked_ports_text}
 use Rattle.components.specs.declared.kind.Kind.{Kind}
-use Rattle.components.specs.declared.kind.Kind.TheVariants.{Entry, Exit, Buffer, Fork, Join, Split, Operator, Constant, Source0, Sink0, Mux, Branch, Merge, CtrlMerge, Init, Tagger}
+use Rattle.components.specs.declared.kind.Kind.TheVariants.{Entry, Exit, Buffer, Fork, Join, Split, Operator, Constant, Source0, Sink0, Pure, Mux, Branch, Merge, CtrlMerge, Init, Tagger}
 use Rattle.components.specs.Name.{Name, name_cmp}
 use Rattle.components.specs.Node.{Body, IsOwned, is_owned, kept_of}
 use Rattle.graph_print.specs.CanonicalText.{PrintedPort, kind_word, own_pairs, side_pairs, printed_side, marked_ports, pairs_of}
@@ -83,6 +83,7 @@ own_says_no (Operator op widths width) = (refl, refl, refl)
 own_says_no (Constant shape width value) = (refl, refl, refl)
 own_says_no (Source0 shape) = (refl, refl, refl)
 own_says_no (Sink0 shape) = (refl, refl, refl)
+own_says_no (Pure fun shape) = (refl, refl, refl)
 own_says_no (Mux shape) = (refl, refl, refl)
 own_says_no (Branch shape) = (refl, refl, refl)
 own_says_no (Merge shape count) = (refl, refl, refl)
@@ -111,6 +112,7 @@ own_owned (Operator op widths width) = (refl, tt)
 own_owned (Constant shape width value) = (refl, tt)
 own_owned (Source0 shape) = tt
 own_owned (Sink0 shape) = tt
+own_owned (Pure fun shape) = (refl, tt)
 own_owned (Mux shape) = tt
 own_owned (Branch shape) = tt
 own_owned (Merge shape count) = tt

@@ -15,7 +15,7 @@ use Rattle.dot_text.specs.Grammar.{Pair}
 use Rattle.dot_text.specs.Printing.{CanBeQuoted, PairPrints, NodePrints, EdgePrints, DocPrints}
 use Rattle.dot_text.specs.Texts.{PairTexts, NodeTexts, EdgeTexts, DocTexts}
 use Rattle.components.specs.declared.kind.Kind.{Kind}
-use Rattle.components.specs.declared.kind.Kind.TheVariants.{Entry, Exit, Buffer, Fork, Join, Split, Operator, Constant, Source0, Sink0, Mux, Branch, Merge, CtrlMerge, Init, Tagger}
+use Rattle.components.specs.declared.kind.Kind.TheVariants.{Entry, Exit, Buffer, Fork, Join, Split, Operator, Constant, Source0, Sink0, Pure, Mux, Branch, Merge, CtrlMerge, Init, Tagger}
 use Rattle.components.specs.Name.{Name, Port, IsName, IsNameByte, port_get}
 use Rattle.components.specs.Kind.{Shape, ports, KindOk}
 use Rattle.components.specs.Node.{Body}
@@ -29,7 +29,7 @@ use Rattle.read_back.proofs.Each.{each_append, each_mapped, each_changed}
 use Rattle.components.specs.Entries.{each_entry}
 use Rattle.read_back.proofs.PortsBack.{are_ports}
 use Rattle.read_back.proofs.PortNames.{last_port}
-use Rattle.read_back.proofs.WrittenTexts.{IsWritten, written, side_simple, name_simple, ports_simple, word_simple, op_simple, hexadecimal_simple, decimal_written}
+use Rattle.read_back.proofs.WrittenTexts.{IsWritten, written, side_simple, name_simple, ports_simple, word_simple, op_simple, hexadecimal_simple, decimal_written, FunctionLaws, function_written}
 
 -- ---- the texts of a node
 
@@ -56,30 +56,31 @@ side_written side (port ∷ printed) are = (
 hexadecimal_written : (value : ℕ) → value < 2 ^ 64 → IsWritten (hexadecimal value)
 hexadecimal_written value small = written (hexadecimal value) (hexadecimal_simple value small)
 
-own_written : (kind : Kind) → KindOk kind → ValueFits kind → AllByRecursion PairIsWritten (own_pairs kind)
-own_written (Entry shape) ok fits = tt
-own_written (Exit shape) ok fits = tt
-own_written (Buffer shape) ok fits = tt
-own_written (Fork shape count) ok fits = tt
-own_written (Join shapes) ok fits = tt
-own_written (Split shapes) ok fits = tt
-own_written (Operator op widths width) ok fits = ((written (codes "op") refl, written (graph_word op) (op_simple op)), tt)
-own_written (Constant shape width value) ok fits = ((written (codes "value") refl, hexadecimal_written value fits), tt)
-own_written (Source0 shape) ok fits = tt
-own_written (Sink0 shape) ok fits = tt
-own_written (Mux shape) ok fits = tt
-own_written (Branch shape) ok fits = tt
-own_written (Merge shape count) ok fits = tt
-own_written (CtrlMerge shape count width) ok fits = tt
-own_written (Init value zero) ok fits = ((written (codes "value") refl, hexadecimal_written value (omega (arith, ok.0))), tt)
-own_written (Init value (suc mark)) ok fits = (
+own_written : FunctionLaws → (kind : Kind) → KindOk kind → ValueFits kind → AllByRecursion PairIsWritten (own_pairs kind)
+own_written laws (Entry shape) ok fits = tt
+own_written laws (Exit shape) ok fits = tt
+own_written laws (Buffer shape) ok fits = tt
+own_written laws (Fork shape count) ok fits = tt
+own_written laws (Join shapes) ok fits = tt
+own_written laws (Split shapes) ok fits = tt
+own_written laws (Operator op widths width) ok fits = ((written (codes "op") refl, written (graph_word op) (op_simple op)), tt)
+own_written laws (Constant shape width value) ok fits = ((written (codes "value") refl, hexadecimal_written value fits), tt)
+own_written laws (Source0 shape) ok fits = tt
+own_written laws (Sink0 shape) ok fits = tt
+own_written laws (Pure fun shape) ok fits = ((written (codes "fun") refl, function_written laws fun ok.1), tt)
+own_written laws (Mux shape) ok fits = tt
+own_written laws (Branch shape) ok fits = tt
+own_written laws (Merge shape count) ok fits = tt
+own_written laws (CtrlMerge shape count width) ok fits = tt
+own_written laws (Init value zero) ok fits = ((written (codes "value") refl, hexadecimal_written value (omega (arith, ok.0))), tt)
+own_written laws (Init value (suc mark)) ok fits = (
   (written (codes "value") refl, hexadecimal_written value (omega (arith, ok.0))),
   ((written (codes "ooo") refl, decimal_written (suc mark) (omega (arith, ok.1))), tt),
 )
-own_written (Tagger shape tags) ok fits = ((written (codes "tags") refl, decimal_written tags (omega (arith, ok.3))), tt)
+own_written laws (Tagger shape tags) ok fits = ((written (codes "tags") refl, decimal_written tags (omega (arith, ok.3))), tt)
 
-pairs_written : PortsAreShapes → (body : Body) → KindOk body.kind → ValueFits body.kind → AllByRecursion PairIsWritten (map_of.entries body.kept) → AllByRecursion PairIsWritten (pairs_of body)
-pairs_written right body ok fits kept =
+pairs_written : PortsAreShapes → FunctionLaws → (body : Body) → KindOk body.kind → ValueFits body.kind → AllByRecursion PairIsWritten (map_of.entries body.kept) → AllByRecursion PairIsWritten (pairs_of body)
+pairs_written right laws body ok fits kept =
     let first : Pair = (codes "type", kind_word body.kind) in
     let inputs = side_pairs body.kind Ins in
     let outputs = side_pairs body.kind Outs in
@@ -89,7 +90,7 @@ pairs_written right body ok fits kept =
     let both : AllByRecursion PairIsWritten (first ∷ inputs ++ outputs) =
     each_append PairIsWritten (first ∷ inputs) outputs front (side_written Outs (marked_ports body.kind Outs) (are_ports right body.kind Outs ok)) in
     each_append PairIsWritten ((first ∷ inputs ++ outputs) ++ own) (map_of.entries body.kept)
-    (each_append PairIsWritten (first ∷ inputs ++ outputs) own both (own_written body.kind ok fits)) kept
+    (each_append PairIsWritten (first ∷ inputs ++ outputs) own both (own_written laws body.kind ok fits)) kept
 
 -- ---- in the words of the laws of documents
 
@@ -113,7 +114,7 @@ edge_utf8 e h = (h.0.utf8, h.1.utf8, each_changed PairIsWritten (PairTexts IsUtf
 
 -- ---- what holds at each key holds of each entry
 
-module _ (right : PortsAreShapes) (g : NamedGraph) (within : CanBeReadBack g) (quoted : KeptTexts CanBeQuoted g) (utf8 : KeptTexts IsUtf8 g) where
+module _ (right : PortsAreShapes) (laws : FunctionLaws) (g : NamedGraph) (within : CanBeReadBack g) (quoted : KeptTexts CanBeQuoted g) (utf8 : KeptTexts IsUtf8 g) where
   name_at : (name : Name) (body : Body) → map_of.get g.nodes name ≡ Some body → IsWritten name
   name_at name body is = name_written name (within.names name body is)
 
@@ -126,7 +127,7 @@ module _ (right : PortsAreShapes) (g : NamedGraph) (within : CanBeReadBack g) (q
       (record { quoted = quotes.0; utf8 = texts.0 }, record { quoted = quotes.1; utf8 = texts.1 }))
 
   node_texts : (name : Name) (body : Body) → map_of.get g.nodes name ≡ Some body → NodeTexts IsWritten (node_entry (name, body))
-  node_texts name body is = (name_at name body is, pairs_written right body (within.typed.kinds name body is) (within.values name body is) (kept_at name body is))
+  node_texts name body is = (name_at name body is, pairs_written right laws body (within.typed.kinds name body is) (within.values name body is) (kept_at name body is))
 
   port_written : (side : Side) (name : Name) (body : Body) (number : ℕ) (shape : Shape) → map_of.get g.nodes name ≡ Some body → port_get (ports body.kind side) number ≡ Some shape →
       IsWritten (port_name side number)
@@ -167,5 +168,5 @@ module _ (right : PortsAreShapes) (g : NamedGraph) (within : CanBeReadBack g) (q
     each_mapped (λ e. EdgeTexts IsWritten (edge_entry e)) (EdgeTexts IsUtf8) edge_entry edge_utf8 (map_of.entries g.feeders) edges_texts,
   )
 
-pub canonical_prints : PortsAreShapes → CanonicalPrints
-canonical_prints right g within quoted utf8 = (document_prints right g within quoted utf8, document_utf8 right g within quoted utf8)
+pub canonical_prints : PortsAreShapes → FunctionLaws → CanonicalPrints
+canonical_prints right laws g within quoted utf8 = (document_prints right laws g within quoted utf8, document_utf8 right laws g within quoted utf8)

@@ -15,6 +15,10 @@ use Rattle.std.proofs.lemmas.Str.Ascii.{IsAscii-cons, IsAscii-nil}
 use Rattle.op_table.specs.declared.op.Op.{Op}
 use Rattle.op_table.specs.declared.op.Op.TheVariants.{Add, Sub, Mul, Udiv, Urem, Sdiv, Srem, And, Or, Xor, Shl, Lshr, Ashr, Eq, Ne, Ult, Ule, Ugt, Uge, Slt, Sle, Sgt, Sge, Select, Zext, Sext, Trunc, Ret}
 use Rattle.op_table.specs.Operator.{graph_word}
+use Rattle.fun_expr.specs.Each.{Each}
+use Rattle.fun_expr.specs.FunText.{fun_text}
+use Rattle.fun_expr.specs.Function.{Function, FunOk}
+use Rattle.fun_expr.specs.Laws.{PrintedIsText, IsPlainByte, TextIsPlain}
 use Rattle.port_types.specs.declared.port.Port.{Port}
 use Rattle.port_types.specs.declared.side.Side.{Side}
 use Rattle.port_types.specs.declared.side.Side.TheVariants.{Ins, Outs}
@@ -25,7 +29,7 @@ use Rattle.port_types.specs.PortLaws.{ArePorts}
 use Rattle.dot_text.specs.Lexical.{is_plain, Quotes, Quotes.nothing, Quotes.plain}
 use Rattle.dot_text.specs.Printing.{CanBeQuoted}
 use Rattle.components.specs.declared.kind.Kind.{Kind}
-use Rattle.components.specs.declared.kind.Kind.TheVariants.{Entry, Exit, Buffer, Fork, Join, Split, Operator, Constant, Source0, Sink0, Mux, Branch, Merge, CtrlMerge, Init, Tagger}
+use Rattle.components.specs.declared.kind.Kind.TheVariants.{Entry, Exit, Buffer, Fork, Join, Split, Operator, Constant, Source0, Sink0, Pure, Mux, Branch, Merge, CtrlMerge, Init, Tagger}
 use Rattle.graph_print.specs.CanonicalText.{kind_word, hexadecimal}
 
 -- some quoted text stands for it, and it is UTF-8
@@ -129,6 +133,25 @@ ports_simple side ports are =
     join_simple 32 refl (marked_texts_from side 1 ports)
     (port_texts_simple side 1 ports (omega (arith, are.few)) are.marked (recursion_from_All (λ (port : Port). IsShape port.shape) ports are.shapes))
 
+-- ---- functions
+
+plain_simple : (byte : ℕ) → IsPlainByte byte → simple_byte byte ≡ true
+plain_simple byte h = grind (arith, nat_tests)
+
+each_simple : (text : List ℕ) → Each IsPlainByte text → simple text ≡ true
+each_simple [] each = refl
+each_simple (byte ∷ text) each = and_from (simple_byte byte) (simple text) (plain_simple byte each.0) (each_simple text each.1)
+
+-- what ensures that the texts of functions can be written
+pub record FunctionLaws : Type 0 where
+  pub printed : PrintedIsText
+  pub plain : TextIsPlain
+
+pub function_written : FunctionLaws → (fun : Function) → FunOk fun → IsWritten (fun_text fun.binds fun.outs)
+function_written laws fun ok =
+    let text = fun_text fun.binds fun.outs in
+    written text (each_simple text (laws.plain text fun.binds fun.outs (laws.printed fun ok)))
+
 -- ---- words
 
 pub decimal_written : (number : ℕ) → number < 2 ^ 64 → IsWritten (decimal number)
@@ -145,6 +168,7 @@ word_simple (Operator op widths width) = refl
 word_simple (Constant shape width value) = refl
 word_simple (Source0 shape) = refl
 word_simple (Sink0 shape) = refl
+word_simple (Pure fun shape) = refl
 word_simple (Mux shape) = refl
 word_simple (Branch shape) = refl
 word_simple (Merge shape count) = refl

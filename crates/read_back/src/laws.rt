@@ -7,6 +7,7 @@ use components::{ports_are_shapes, words_read_back};
 use dot_text::{
     one_document, printed_document_is_utf8, printed_document_stands, standing_document_prints,
 };
+use fun_expr::{printed_is_text, text_is_plain};
 use graph_read::{numbers_read_back, read_graphs_are_typed, rows_are_met, rows_read_back};
 use port_types::{reads_back, reads_ports};
 
@@ -20,6 +21,7 @@ pub fn canonical_document_reads_back()
     reads_back();
     rows_read_back();
     numbers_read_back();
+    printed_is_text();
 }
 
 /// The canonical document of a graph within the limits of reading can be printed, where the texts that the graph keeps can be quoted
@@ -28,6 +30,8 @@ pub fn canonical_document_prints()
     ensures { CanonicalPrints }
 {
     ports_are_shapes();
+    printed_is_text();
+    text_is_plain();
 }
 
 /// The canonical text of such a graph is an input of that graph.

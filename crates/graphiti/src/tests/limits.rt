@@ -92,6 +92,33 @@ fn a_fork_has_at_most_64_outputs(rt: HostRuntime) -> Result<(), Fail> {
     check_refused(&rt, fork.as_bytes(), 3, "graphiti: BadPorts \"f\"\n")
 }
 
+/// The text of a Pure that gives the first of so many bits to each of them.
+fn pure_text(alloc: Global, bits: u32) -> Result<String, AllocError> {
+    let mut shape = String::from_str(alloc, "1")?;
+    let mut outs = String::from_str(alloc, "#0")?;
+    for _ in 1..bits {
+        shape.push_str(".1")?;
+        outs.push_str(" #0")?;
+    }
+    let mut text = format!(in alloc;
+        "digraph G {{\n  \"p\" [type = \"Pure\", in = \"in1:{shape}\", out = \"out1:{shape}\", fun = \"-> {outs}\"];\n"
+    )?;
+    push_wire(&mut text, "p", 1, "p")?;
+    text.push_str("}\n")?;
+    Ok(text)
+}
+
+#[test]
+fn a_pure_gives_at_most_128_fields(rt: HostRuntime) -> Result<(), Fail> {
+    let alloc = rt.alloc();
+    for bits in [1, 128] {
+        let pure = pure_text(alloc, bits)?;
+        check_strip(&rt, pure.as_str(), pure.as_str())?;
+    }
+    let pure = pure_text(alloc, 129)?;
+    check_refused(&rt, pure.as_bytes(), 3, "graphiti: BadPorts \"p\"\n")
+}
+
 #[test]
 fn the_node_at_place_65536_is_taken(rt: HostRuntime) -> Result<(), Fail> {
     let text = sources_text(rt.alloc(), 65_536)?;

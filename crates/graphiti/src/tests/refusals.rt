@@ -72,7 +72,10 @@ a [type=Init, in="in1:1", out="out1:1", ooo=257] => 3 BadTags "a"
 a [type=Init, in="in1:1", out="out1:1", ooo=04] => 3 BadTags "a"
 a [type=Init, in="in1:1", out="out1:1", ooo=""] => 3 BadTags "a"
 a [type=Tagger, in="in1:8 in2:2.8", out="out1:2.8 out2:8"] => 3 BadTags "a"
-a [type=Tagger, tags=5, in="in1:8 in2:2.8", out="out1:2.8 out2:8"] => 3 BadTags "a""#,
+a [type=Tagger, tags=5, in="in1:8 in2:2.8", out="out1:2.8 out2:8"] => 3 BadTags "a"
+a [type=Pure, in="in1:8", out="out1:8"] => 3 BadFun "a"
+a [type=Pure, in="in1:8", out="out1:8", fun="-> 0"] => 3 BadFun "a"
+a [type=Pure, in="in1:8.8", out="out1:8", fun="-> #0 #1"] => 3 BadFun "a""#,
     )
 }
 
@@ -115,7 +118,7 @@ p [type=Pure, type=Sink, in="in1:8"] => 3 PortOpen "p" in1"#,
 
 #[test]
 fn inputs_that_are_refused(rt: HostRuntime) -> Result<(), Fail> {
-    // no document, with the byte where this shows; a document that is no graph or is not read yet, whatever stands behind it;
+    // no document, with the byte where this shows; a document that is no graph, whatever stands behind it;
     // and something behind a graph
     check_refusals(
         &rt,
@@ -131,9 +134,8 @@ digraph G { p [type=Pure] a -> b -> c } => 2 syntax at byte 33
 digraph G { a [x=y] } x => 3 NoKind "a"
 digraph G { a [x=y] } /* => 3 NoKind "a"
 digraph G { a [type=Source, out="out1:8"] } digraph G {} => 3 PortOpen "a" out1
-digraph G { p [type=Sink, type="Pure", in="in1:8"] } => 10 not yet
-digraph G { "a b" [x=y] m [type=LSQ] p [type=Pure] p [type=Pure] a -> q } x => 10 not yet
-digraph G { subgraph s { { p [type=Pure, in="in1*:8"] } } } /* => 10 not yet
+digraph G { p [type=Sink, type="Pure", in="in1:8"] } => 3 BadPorts "p"
+digraph G { subgraph s { { p [type=Pure, in="in1*:8"] } } } /* => 3 MemoryPort "p"
 digraph G {} digraph H {} => 2 syntax at byte 13
 digraph G {}x => 2 syntax at byte 12
 digraph G {}; => 2 syntax at byte 12
@@ -161,5 +163,5 @@ fn inputs_of_other_bytes_that_are_refused(rt: HostRuntime) -> Result<(), Fail> {
     let input = b"digraph G { \"a\t\" [x=y] }".as_slice();
     check_refused(&rt, input, 3, "graphiti: BadName \"a\t\"\n")?;
     let input = b"digraph G { p [type=Pure] } \xff".as_slice();
-    check_refused(&rt, input, 10, "graphiti: not yet\n")
+    check_refused(&rt, input, 3, "graphiti: BadPorts \"p\"\n")
 }

@@ -203,6 +203,18 @@ pub(super) fn kinds_printed() -> &'static str {
 "#
 }
 
+/// A function of pairs: their sum, and their first number.
+pub(super) fn applied() -> &'static str {
+    r#"digraph G {
+  "f" [type = "Pure", in = "in1:8.8", out = "out1:8.8", fun = "add:8(#0,#1) -> #2 #0"];
+  "x" [type = "Entry", out = "out1:8.8"];
+  "y" [type = "Exit", in = "in1:8.8"];
+  "x" -> "f" [from = "out1", to = "in1"];
+  "f" -> "y" [from = "out1", to = "in1"];
+}
+"#
+}
+
 /// A document in an odd spelling.
 pub(super) fn loose() -> &'static str {
     r#"Digraph { // c

@@ -9,5 +9,5 @@ returns-clause-some c = λ command input.
 
 pub returns-clause-one : goal.returns-clause-one
 returns-clause-one c = λ command input.
-    one_verdict c.one_document.ensures c.one_place.ensures.one c.one_place.ensures.none c.skipping_decides.ensures.one c.skipping_decides.ensures.one_fault c.skipping_decides.ensures.not_both
-    c.read_graphs_are_typed.ensures.no_pure input c.one_stripped_graph.ensures.one command
+    one_verdict c.one_document.ensures c.one_place.ensures.one c.one_place.ensures.none c.skipping_decides.ensures.one c.skipping_decides.ensures.one_fault c.skipping_decides.ensures.not_both input
+    c.one_stripped_graph.ensures.one command

@@ -10,7 +10,7 @@ pub returns-in-Merge : goal.returns-in-Merge
 returns-in-Merge c =
     let is_there = subst (λ kind. IsSome (port_get (ins kind) c.args.port)) c.in-Merge.is c.requires.there in
     let found = ap (λ kind. port_get (ins kind) c.args.port) c.in-Merge.is ∙ port_get-same c.in-Merge.field-1 c.args.port c.in-Merge.shape is_there in
-    c.field_in.ensures ∙ ap (λ o. field_of o c.args.index) (sym found)
+    c.field_in-in-Merge.ensures ∙ ap (λ o. field_of o c.args.index) (sym found)
 
 pub returns-in-CtrlMerge : goal.returns-in-CtrlMerge
 returns-in-CtrlMerge c =

@@ -1,4 +1,3 @@
-use Rattle.graph_read.proofs.NoPure.{read_has_no_pure}
 use Rattle.graph_read.proofs.GraphRead.{read_is_named}
 use Rattle.graph_read.proofs.ReadTyped.{read_is_typed}
 use Rattle.graph_read.proofs.laws.read_graphs_are_typed.Goals as goal
@@ -8,6 +7,3 @@ returns-clause-typed c = read_is_typed c.reads_ports.ensures c.rows_are_met.ensu
 
 pub returns-clause-named : goal.returns-clause-named
 returns-clause-named c = read_is_named
-
-pub returns-clause-no_pure : goal.returns-clause-no_pure
-returns-clause-no_pure c = read_has_no_pure

@@ -12,4 +12,5 @@ returns c =
       rows = c.rows_read_back.ensures;
       values = c.numbers_read_back.ensures.hexadecimal;
       tags = c.numbers_read_back.ensures.tags;
+      functions = c.printed_is_text.ensures.text;
     })

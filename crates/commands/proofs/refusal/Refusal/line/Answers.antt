@@ -4,6 +4,3 @@ use Rattle.commands.proofs.refusal.Refusal.line.Goals as goal
 
 pub returns-in-Syntax : goal.returns-in-Syntax
 returns-in-Syntax c = c.number_line.ensures (refusal_name c.args.self.now) ∙ sym (ap refusal_line c.in-Syntax.is)
-
-pub returns-in-NotYet : goal.returns-in-NotYet
-returns-in-NotYet c = c.text_line.ensures (refusal_name c.args.self.now) ∙ sym (ap refusal_line c.in-NotYet.is)

@@ -1,10 +1,11 @@
 //! The worked rows of the table of components, and calls that take memory.
 ghost use Rattle.components.specs.Kind.{KindOk};
 
-use crate::{
+use components::{
     Kind, component_at, component_of, has_port, is_name, kept_by_key, kind_ok, owns, port_shape,
     same_kind, word_of,
 };
+use fun_expr::{Expr, Fun};
 use op_table::Op;
 use port_types::{Items, Shape, Side, Text};
 use std::alloc::Global;
@@ -36,6 +37,14 @@ fn several_of(alloc: Global, word: &str) -> Result<Kind, Fail> {
     })
 }
 
+/// The function of tokens of two fields that gives the second field and a bit.
+fn fun_of(alloc: Global) -> Result<Fun, Fail> {
+    let binds = vec![in alloc; Expr::Lit(1, 0)]?;
+    let outs = [1, 2].to_vec(alloc)?;
+    let input = shape_of(alloc, &[8, 4])?;
+    Ok(Fun::new(input, Items::new(binds), Items::new(outs)).ok_or("no function")?)
+}
+
 /// The kind of this word, over tokens of two fields of 8 and 4 bits.
 fn kind_of(alloc: Global, word: &str) -> Result<Kind, Fail> {
     let data = shape_of(alloc, &[8, 4])?;
@@ -47,6 +56,7 @@ fn kind_of(alloc: Global, word: &str) -> Result<Kind, Fail> {
         "Constant" => Kind::Constant(data, 5, 31),
         "Source" => Kind::Source0(data),
         "Sink" => Kind::Sink0(data),
+        "Pure" => Kind::Pure(fun_of(alloc)?, shape_of(alloc, &[4, 1])?),
         "Mux" => Kind::Mux(data),
         "Branch" => Kind::Branch(data),
         "Merge" => Kind::Merge(data, 2),
@@ -77,7 +87,7 @@ fn row_of(alloc: Global, kind: &Kind) -> Result<String, Fail> {
         text.push_str(" > ")?;
         push_side(&mut text, alloc, kind, Side::Outs)?;
     }
-    for key in ["op", "value", "ooo", "tags"] {
+    for key in ["op", "value", "fun", "ooo", "tags"] {
         if owns(kind, key.as_bytes()) {
             write!(text, " {key}")?;
         }
@@ -105,6 +115,7 @@ fn rows_of_the_table(rt: HostRuntime) -> Result<(), Fail> {
         ("Constant", "[8, 4] > [5] value"),
         ("Source", " > [8, 4]"),
         ("Sink", "[8, 4] > "),
+        ("Pure", "[8, 4] > [4, 1] fun"),
         ("Mux", "[1][8, 4][8, 4] > [8, 4]"),
         ("Branch", "[8, 4][1] > [8, 4][8, 4]"),
         ("Merge", "[8, 4][8, 4] > [8, 4]"),
@@ -130,6 +141,17 @@ fn limits_of_fields(rt: HostRuntime) -> Result<(), Fail> {
         let widths = vec![in rt.alloc(); 1; fields]?;
         let tagger = Kind::Tagger(shape_of(rt.alloc(), &widths)?, 256);
         assert_eq!(rt; kind_ok(&tagger), want, "{fields}");
+    }
+    Ok(())
+}
+
+#[test]
+fn a_pure_has_the_output_of_its_function(rt: HostRuntime) -> Result<(), Fail> {
+    let alloc = rt.alloc();
+    for widths in [[4, 2], [1, 4]] {
+        let pure = Kind::Pure(fun_of(alloc)?, shape_of(alloc, &widths)?);
+        assert!(rt; !kind_ok(&pure));
+        assert!(rt; !same_kind(&pure, &kind_of(alloc, "Pure")?));
     }
     Ok(())
 }
