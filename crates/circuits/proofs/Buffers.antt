@@ -3,3 +3,4 @@ pub mod Steps
 pub mod Circuits
 pub mod Drains
 pub mod Graphs
+pub mod Several

@@ -17,6 +17,8 @@ mod Rest
 mod Plugging
 mod Renaming
 mod Transitive
+mod Renamed
+mod Replacing
 mod Alone
 mod GraphCircuits
 mod TaggerOrder

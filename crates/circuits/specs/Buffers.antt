@@ -1,5 +1,5 @@
--- Circuits and graphs without one of their Buffers.
-use Rattle.std.specs.Prelude.{◌≡◌, ◌≢◌, Option, Some, None, if◌then◌else◌, bytes_eq}
+-- Circuits and graphs without one of their Buffers, and circuits without several.
+use Rattle.std.specs.Prelude.{◌≡◌, ◌≢◌, List, [], ◌∷◌, Option, Some, None, if◌then◌else◌, bytes_eq}
 use Rattle.std.specs.FinMap as map
 use Rattle.components.specs.declared.kind.Kind.{Kind}
 use Rattle.components.specs.declared.kind.Kind.TheVariants.{Buffer, Fork}
@@ -38,6 +38,16 @@ pub record CanDropBuffer (c : Circuit) (b : Name) : Type 0 where
   pub before : Port
   pub is_before : c.feeder (first_port b) ≡ Some before
   pub other : before.node ≢ b
+
+-- c without each of these, one after another
+abbrev pub drop_all : List Name → Circuit → Circuit
+drop_all [] c = c
+drop_all (b ∷ bs) c = drop_all bs (drop_node b c)
+
+-- each can be left out once those before it are
+abbrev pub CanDropEach : List Name → Circuit → Type 0
+CanDropEach [] c = Unit {0}
+CanDropEach (b ∷ bs) c = CanDropBuffer c b × CanDropEach bs (drop_node b c)
 
 -- graph h is graph g without b: what fed b feeds the input that b fed
 pub record IsWithoutBuffer (h g : NamedGraph) (b : Name) : Type 0 where

@@ -1,5 +1,5 @@
 -- The laws of circuits.
-use Rattle.std.specs.Prelude.{◌≡◌, ℕ, drop, List, Some}
+use Rattle.std.specs.Prelude.{◌≡◌, ℕ, drop, List, Option, Some}
 use Rattle.components.specs.declared.kind.Kind.{Kind}
 use Rattle.components.specs.declared.kind.Kind.TheVariants.{Buffer, Tagger}
 use Rattle.components.specs.Name.{Name, Port}
@@ -13,7 +13,8 @@ use Rattle.circuits.specs.Run.{Step, Move, Run, Shows}
 use Rattle.circuits.specs.TaggerOrder.{tags_of, tags_given, results_given}
 use Rattle.circuits.specs.Plug.{PlugLink, plug, Apart, CanPlug}
 use Rattle.circuits.specs.Refines.{Refines}
-use Rattle.circuits.specs.Buffers.{first_port, drop_node, CanDropBuffer, IsWithoutBuffer}
+use Rattle.circuits.specs.Buffers.{first_port, drop_node, drop_all, CanDropBuffer, CanDropEach, IsWithoutBuffer}
+use Rattle.circuits.specs.Replacing.{replaced, IsPart, IsNew, Ends}
 use Rattle.circuits.specs.Root.{Root}
 use Rattle.circuits.specs.Drains.{IsInit, IsRest, Drains}
 
@@ -61,6 +62,11 @@ abbrev pub WholeRefines : Type 0
 WholeRefines = (rest new old : Circuit) (ls : List PlugLink) → Typed rest → CanPlug rest ls old → Apart rest new →
     Refines new old → Refines (plug rest ls new) (plug rest ls old)
 
+-- a circuit with a part replaced by what refines the part refines what it was, whatever stands around the part
+abbrev pub ReplacementRefines : Type 0
+ReplacementRefines = (g left right : Circuit) (target : Port → Option Port) (ends : List Name) →
+    IsPart g left target → Ends left ends → IsNew g left right → Refines right left → Refines (replaced g left right target) g
+
 -- without a Buffer a circuit shows nothing new
 abbrev pub DropRefines : Type 0
 DropRefines = (c : Circuit) (b : Name) → Typed c → CanDropBuffer c b → Refines (drop_node b c) c
@@ -68,6 +74,14 @@ DropRefines = (c : Circuit) (b : Name) → Typed c → CanDropBuffer c b → Ref
 -- nor with it
 abbrev pub PutRefines : Type 0
 PutRefines = (c : Circuit) (b : Name) → Typed c → CanDropBuffer c b → Refines c (drop_node b c)
+
+-- nor without several
+abbrev pub DropAllRefines : Type 0
+DropAllRefines = (c : Circuit) (bs : List Name) → Typed c → CanDropEach bs c → Refines (drop_all bs c) c
+
+-- nor with them
+abbrev pub PutAllRefines : Type 0
+PutAllRefines = (c : Circuit) (bs : List Name) → Typed c → CanDropEach bs c → Refines c (drop_all bs c)
 
 -- a typed graph stands for a typed circuit
 abbrev pub CircuitIsTyped : Type 0

@@ -6,6 +6,7 @@ pub mod Run
 pub mod Plug
 pub mod Refines
 pub mod Buffers
+pub mod Replacing
 pub mod TaggerOrder
 pub mod Root
 pub mod Drains

@@ -7,7 +7,8 @@
 //! - `CircuitState`, `PortTokens`, `Firing`, `Run`: states and the start, the table of components by what a node does, steps,
 //!   runs, and the trace that is seen of a run.
 //! - `Refines`: in no surrounding circuit does the one show anything that the other does not.
-//! - `Buffers`: a circuit, and a graph, without a Buffer or a Fork of one output.
+//! - `Buffers`: a circuit, and a graph, without a Buffer or a Fork of one output, and a circuit without several.
+//! - `Replacing`: a part of a circuit, and another circuit in its place.
 //! - `Root`, `Drains`: where the tokens of an input come from, the state at rest, and what a circuit drains.
 //! - `TaggerOrder`: what a Tagger gave out in a run. `Laws`: the laws that the functions below prove.
 //!
@@ -27,7 +28,7 @@
 //! The crate `circuit_examples` tries the definitions out on small graphs.
 #![tactic(auto)]
 
-ghost use Rattle.circuits.specs.Laws.{StartIsState, StepKeepsState, RunReachesState, FiringIsOne, TaggerKeepsOrder, RefinesItself, RefinesInSteps, RefinesAlone, PlugIsTyped, WholeRefines, DropRefines, PutRefines, CircuitIsTyped, GraphIsTyped, GraphDropRefines, GraphPutRefines, RootIsOne, RingHasNoRoot, RestIsOne, GraphRests, RestsWithoutInit, DropDrains, GraphDropDrains};
+ghost use Rattle.circuits.specs.Laws.{StartIsState, StepKeepsState, RunReachesState, FiringIsOne, TaggerKeepsOrder, RefinesItself, RefinesInSteps, RefinesAlone, PlugIsTyped, WholeRefines, ReplacementRefines, DropRefines, PutRefines, DropAllRefines, PutAllRefines, CircuitIsTyped, GraphIsTyped, GraphDropRefines, GraphPutRefines, RootIsOne, RingHasNoRoot, RestIsOne, GraphRests, RestsWithoutInit, DropDrains, GraphDropDrains};
 
 use fun_expr::fun_value_fits;
 use op_table::value_fits;
@@ -79,10 +80,28 @@ pub fn whole_refines()
     ensures { WholeRefines }
 {}
 
+/// A circuit with another part in the place of one of its parts refines the circuit, if the new part refines the old one,
+/// whatever stands around the part.
+pub fn replacement_refines()
+    ensures { ReplacementRefines }
+{
+    value_fits();
+    fun_value_fits();
+}
+
 /// A circuit shows the same with a Buffer on a wire, or a Fork of one output, and without it.
 pub fn buffer_shows_nothing()
     ensures dropped { DropRefines }
     ensures put { PutRefines }
+{
+    value_fits();
+    fun_value_fits();
+}
+
+/// A circuit shows the same with several Buffers, or Forks of one output, and without them.
+pub fn buffers_show_nothing()
+    ensures dropped { DropAllRefines }
+    ensures put { PutAllRefines }
 {
     value_fits();
     fun_value_fits();

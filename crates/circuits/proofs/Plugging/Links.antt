@@ -2,11 +2,12 @@
 use Rattle.std.proofs.Common.{◌≡◌, ◌≢◌, ◌⊎◌, inl, inr, refl, ap, subst, ◌∙◌, List, [], ◌∷◌, Some}
 use Rattle.std.specs.List.{AllByRecursion}
 use Rattle.components.specs.declared.kind.Kind.{Kind}
-use Rattle.components.specs.declared.kind.Kind.TheVariants.{Entry, Exit}
+use Rattle.components.specs.declared.kind.Kind.TheVariants.{Exit}
 use Rattle.components.specs.Name.{Name}
 use Rattle.components.specs.Kind.{Shape}
 use Rattle.circuits.specs.Circuit.{Circuit, Typed}
 use Rattle.circuits.specs.Plug.{PlugLink, link, link_all, plug, beside, Joins, UsesNoneTwice, CanPlug}
+use Rattle.circuits.specs.Replacing.{IsEnd}
 use Rattle.circuits.proofs.Lists.{each_map, each_both}
 use Rattle.circuits.proofs.Linking.{CanLink, kind_other}
 use Rattle.circuits.proofs.Refining.{still, joined_out, joined_in}
@@ -30,12 +31,6 @@ can_link_all c g ls tc tg can =
 
 pub plug_typed : (c g : Circuit) (ls : List PlugLink) → Typed c → Typed g → CanPlug c ls g → Typed (plug c ls g)
 plug_typed c g ls tc tg can = link_all_typed ls (beside c g) (beside_typed c g can.apart tc tg) can.once (can_link_all c g ls tc tg can)
-
--- an Entry or an Exit
-abbrev pub IsEnd : Kind → Type 0
-IsEnd (Entry a) = Unit {0}
-IsEnd (Exit a) = Unit {0}
-IsEnd _ = ⊥
 
 -- the name is no end of a link
 abbrev pub IsFree : Name → PlugLink → Type 0

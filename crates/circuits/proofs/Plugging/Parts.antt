@@ -8,12 +8,13 @@ use Rattle.circuits.specs.Circuit.{Circuit, Typed}
 use Rattle.circuits.specs.Run.{Move, Shows}
 use Rattle.circuits.specs.Plug.{PlugLink, link_all, plug, beside, or_else, Apart, Joins, CanPlug}
 use Rattle.circuits.specs.Refines.{SamePorts, Refines}
+use Rattle.circuits.specs.Replacing.{IsEnd}
 use Rattle.circuits.specs.Laws.{WholeRefines}
 use Rattle.circuits.proofs.Lists.{each_append, each_map, each_both}
 use Rattle.circuits.proofs.Beside.{apart_none, apart_sym, kind_left}
 use Rattle.circuits.proofs.Plugging.Typed.{kind_of_right, or_some}
 use Rattle.circuits.proofs.Transitive.{IsLong, refines_of_long, long_apart}
-use Rattle.circuits.proofs.Plugging.Links.{can_link_all, plug_typed, IsEnd, IsFree, kind_free, was_end, some_kind}
+use Rattle.circuits.proofs.Plugging.Links.{can_link_all, plug_typed, IsFree, kind_free, was_end, some_kind}
 use Rattle.circuits.proofs.Plugging.Regrouping.{beside_assoc, Away, link_all_right, link_all_left, Distinct, link_all_swap, link_all_append}
 use Rattle.circuits.proofs.Plugging.Splitting.{passing, failing, each_passing, once_passing, once_append, AreDistinct, are_distinct, split_links, distinct_back, failing_apart}
 

@@ -24,7 +24,7 @@ linked_kind l n k = if bytes_eq n l.entry then None else (if bytes_eq n l.exit t
 kind_away : (l : PlugLink) (n : Name) (k : Option Kind) → n ≢ l.entry → n ≢ l.exit → linked_kind l n k ≡ k
 kind_away l n k ne nx = rw (other_bytes n l.entry ne, other_bytes n l.exit nx)
 
-redirect_away : (l : PlugLink) (q : Port) → q.node ≢ l.entry → redirect l (Some q) ≡ Some q
+pub redirect_away : (l : PlugLink) (q : Port) → q.node ≢ l.entry → redirect l (Some q) ≡ Some q
 redirect_away l q ne = ap (λ b. Some (if b then record { node = l.exit; port = q.port } else q)) (other_bytes q.node l.entry ne)
 
 -- the names of the link stand not in c
