@@ -2,5 +2,6 @@
 pub mod Steps
 pub mod Circuits
 pub mod Drains
+pub mod DrainsWith
 pub mod Graphs
 pub mod Several

@@ -15,6 +15,10 @@ run_append : (c : Circuit) (s : CircuitState) (ms : List Move) (m : CircuitState
 run_append c s [] m ns t e k = subst (λ x. Run c x ns t) (sym e) k
 run_append c s (f ∷ fs) m ns t h k = (h.0, h.1, run_append c h.0 fs m ns t h.2 k)
 
+pub firings_then : (c : Circuit) (s : CircuitState) (fs : List Firing) (m : CircuitState) (gs : List Firing) (t : CircuitState) → Firings c s fs m → Firings c m gs t → Firings c s (fs ++ gs) t
+firings_then c s fs m gs t h k =
+    subst (λ ms. Run c s ms t) (sym (map-append move_of fs gs)) (run_append c s (map move_of fs) m (map move_of gs) t h k)
+
 -- firings that lead from s to t
 pub record Inner (c : Circuit) (s t : CircuitState) : Type 0 where
   pub firings : List Firing
@@ -27,7 +31,7 @@ pub inner_then : (c : Circuit) (s m t : CircuitState) → Inner c s m → Inner 
 inner_then c s m t h k =
     record {
       firings = h.firings ++ k.firings;
-      leads = subst (λ ms. Run c s ms t) (sym (map-append move_of h.firings k.firings)) (run_append c s (map move_of h.firings) m (map move_of k.firings) t h.leads k.leads);
+      leads = firings_then c s h.firings m k.firings t h.leads k.leads;
     }
 
 pub inner_one : (c : Circuit) (s t : CircuitState) (n : Name) (k : ℕ) → Step c s n (Fire k) t → Inner c s t

@@ -127,7 +127,17 @@ abbrev pub DropDrains : Type 0
 DropDrains = (c : Circuit) (b : Name) (ins outs : Name → List Token) → Typed c → CanDropBuffer c b →
     Drains c ins outs → Drains (drop_node b c) ins outs
 
--- and so does a graph
+-- what it drains without a Buffer it drains with it
+abbrev pub PutDrains : Type 0
+PutDrains = (c : Circuit) (b : Name) (ins outs : Name → List Token) → Typed c → CanDropBuffer c b →
+    Drains (drop_node b c) ins outs → Drains c ins outs
+
+-- what a graph drains it drains without a Buffer
 abbrev pub GraphDropDrains : Type 0
 GraphDropDrains = (h g : NamedGraph) (b : Name) (ins outs : Name → List Token) → IsTyped g → IsWithoutBuffer h g b →
     Drains (circuit_of g) ins outs → Drains (circuit_of h) ins outs
+
+-- and what it drains without a Buffer it drains with it
+abbrev pub GraphPutDrains : Type 0
+GraphPutDrains = (h g : NamedGraph) (b : Name) (ins outs : Name → List Token) → IsTyped g → IsWithoutBuffer h g b →
+    Drains (circuit_of h) ins outs → Drains (circuit_of g) ins outs

@@ -28,7 +28,7 @@
 //! The crate `circuit_examples` tries the definitions out on small graphs.
 #![tactic(auto)]
 
-ghost use Rattle.circuits.specs.Laws.{StartIsState, StepKeepsState, RunReachesState, FiringIsOne, TaggerKeepsOrder, RefinesItself, RefinesInSteps, RefinesAlone, PlugIsTyped, WholeRefines, ReplacementRefines, DropRefines, PutRefines, DropAllRefines, PutAllRefines, CircuitIsTyped, GraphIsTyped, GraphDropRefines, GraphPutRefines, RootIsOne, RingHasNoRoot, RestIsOne, GraphRests, RestsWithoutInit, DropDrains, GraphDropDrains};
+ghost use Rattle.circuits.specs.Laws.{StartIsState, StepKeepsState, RunReachesState, FiringIsOne, TaggerKeepsOrder, RefinesItself, RefinesInSteps, RefinesAlone, PlugIsTyped, WholeRefines, ReplacementRefines, DropRefines, PutRefines, DropAllRefines, PutAllRefines, CircuitIsTyped, GraphIsTyped, GraphDropRefines, GraphPutRefines, RootIsOne, RingHasNoRoot, RestIsOne, GraphRests, RestsWithoutInit, DropDrains, PutDrains, GraphDropDrains, GraphPutDrains};
 
 use fun_expr::fun_value_fits;
 use op_table::value_fits;
@@ -140,4 +140,10 @@ pub fn one_rest()
 pub fn buffer_keeps_drains()
     ensures circuit { DropDrains }
     ensures graph { GraphDropDrains }
+{}
+
+/// What a circuit drains without a Buffer, or without a Fork of one output, it drains with it.
+pub fn buffer_put_keeps_drains()
+    ensures circuit { PutDrains }
+    ensures graph { GraphPutDrains }
 {}

@@ -18,12 +18,12 @@ use Rattle.circuits.proofs.Buffers.Steps.{CanDrop, Ahead, held, pass, pass_ahead
 use Rattle.circuits.proofs.Buffers.Circuits.{Fed, Fed.straight, Fed.across, fed, fed_straight, fed_across, node_kept, kind_kept, can_drop_of}
 use Rattle.circuits.proofs.Rest.Inits.{init_stays, rest_comes}
 
-through_of : (k : Kind) → IsBufferLike k → PassesThrough k
+pub through_of : (k : Kind) → IsBufferLike k → PassesThrough k
 through_of (Buffer _) h = tt
 through_of (Fork _ _) h = tt
 through_of _ h = absurd h
 
-no_exit : (k : Kind) → IsBufferLike k → IsNoExit k
+pub no_exit : (k : Kind) → IsBufferLike k → IsNoExit k
 no_exit (Buffer _) h = tt
 no_exit (Fork _ _) h = tt
 no_exit _ h = absurd h
@@ -78,7 +78,7 @@ module _ (c : Circuit) (b : Name) (cd : CanDropBuffer c b) (ty : Typed c) where
   root_kept : (n : Name) (q : Port) → Root c (first_port n) q → (k : Kind) → c.kind_at q.node ≡ Some k → (PassesThrough k → ⊥) → (drop_node b c).kind_at q.node ≡ Some k
   root_kept n q h k e stays = kind_dropped c b can q.node (root_away q.node k e stays) ∙ e
 
-  led_without : (n : Name) → n ≢ b → Led c n → Led (drop_node b c) n
+  pub led_without : (n : Name) → n ≢ b → Led c n → Led (drop_node b c) n
   led_without n ne led =
       let from = led.comes in
       record {
@@ -111,7 +111,7 @@ module _ (c : Circuit) (b : Name) (cd : CanDropBuffer c b) (ty : Typed c) where
   long p q (here k f e stays) = long_here p q k (fed c b can ty p q f) (kind_kept c b can ty q.node k e) stays
   long p q (past r k f e passes more) = long_past p r q k (fed c b can ty p r f) (kind_kept c b can ty r.node k e) passes (long (first_port r.node) q more)
 
-  led_with : (n : Name) → Led (drop_node b c) n → Led c n
+  pub led_with : (n : Name) → Led (drop_node b c) n → Led c n
   led_with n led =
       let from = led.comes in
       record {
@@ -206,7 +206,7 @@ module _ (c : Circuit) (b : Name) (cd : CanDropBuffer c b) (ty : Typed c) where
             ∙ ap (λ z. holds c ins (Some q) ++ (if z then (loaded c ins).wires (first_port b) else [])) (sym ne.test)
       ]
 
-  loaded_ahead : (ins : Name → List Token) → Ahead c b (loaded (drop_node b c) ins) (loaded c ins)
+  pub loaded_ahead : (ins : Name → List Token) → Ahead c b (loaded (drop_node b c) ins) (loaded c ins)
   unfolding holds loaded_at
   loaded_ahead ins =
       record {

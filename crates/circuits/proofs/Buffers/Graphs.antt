@@ -17,6 +17,7 @@ use Rattle.circuits.proofs.Names.{name_cases}
 use Rattle.circuits.proofs.Buffers.Steps.{CanDrop}
 use Rattle.circuits.proofs.Buffers.Circuits.{in_is, out_is, can_drop_of, dropped, put}
 use Rattle.circuits.proofs.Buffers.Drains.{drains_without}
+use Rattle.circuits.proofs.Buffers.DrainsWith.{drains_with}
 use Rattle.circuits.proofs.Renaming.{circuit_same}
 use Rattle.circuits.proofs.GraphCircuits.{circuit_typed}
 
@@ -93,3 +94,6 @@ module _ (h g : NamedGraph) (b : Name) (ty : IsTyped g) (w : IsWithoutBuffer h g
 
   pub graph_drains : (ins outs : Name → List Token) → Drains (circuit_of g) ins outs → Drains (circuit_of h) ins outs
   graph_drains ins outs d = subst (λ c. Drains c ins outs) (sym without_circuit) (drains_without (circuit_of g) b w.can typed ins outs d)
+
+  pub graph_put_drains : (ins outs : Name → List Token) → Drains (circuit_of h) ins outs → Drains (circuit_of g) ins outs
+  graph_put_drains ins outs d = drains_with (circuit_of g) b w.can typed ins outs (subst (λ c. Drains c ins outs) without_circuit d)

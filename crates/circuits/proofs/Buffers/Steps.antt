@@ -322,7 +322,7 @@ module _ (c : Circuit) (b : Name) (can : CanDrop c b) (ty : Typed c) where
         others = λ m h. refl;
       }
 
-  passed : (t : CircuitState) (v : Token) (vs : List Token) → (passing t v vs).wires (first_port b) ≡ vs
+  pub passed : (t : CircuitState) (v : Token) (vs : List Token) → (passing t v vs).wires (first_port b) ≡ vs
   unfolding passing
   passed t v vs =
       ap (λ z. (if z then rest_at vs (λ i. t.wires (record { node = b; port = i })) 1 else t.wires (first_port b)) ++ share_from b (one v ∷ []) (c.feeder (first_port b))) (same_bytes b b refl)
