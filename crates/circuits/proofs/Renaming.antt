@@ -1,5 +1,5 @@
 -- Circuits whose names are exchanged in pairs.
-use Rattle.std.proofs.Common.{◌≡◌, ℕ, ◌+◌, ◌≤◌, inl, inr, refl, sym, ap, subst, ◌∙◌, bytes_eq, if◌then◌else◌, List, [], ◌∷◌, ◌++◌, length, Option, Some, None}
+use Rattle.std.proofs.Common.{◌≡◌, inl, inr, refl, sym, ap, subst, ◌∙◌, bytes_eq, if◌then◌else◌, List, [], ◌∷◌, ◌++◌, Option, Some, None}
 use Rattle.components.specs.declared.kind.Kind.{Kind}
 use Rattle.components.specs.Name.{Name, Port}
 use Rattle.components.specs.Orders.{same_bytes, other_bytes}
@@ -9,25 +9,9 @@ use Rattle.circuits.specs.CircuitState.{CircuitState, start, initial}
 use Rattle.circuits.specs.Firing.{Label, Label.Feed, Label.Take, Label.Fire, Acts}
 use Rattle.circuits.specs.Run.{Step, Move, Run, trace, shown, Shows}
 use Rattle.circuits.specs.Plug.{PlugLink, link, link_all, redirect, plug, beside, or_else, as_buffer}
+use Rattle.circuits.specs.Renaming.{Swap, port_to, fed_to, renamed}
 use Rattle.circuits.proofs.Names.{name_cases}
 use Rattle.circuits.proofs.Beside.{unfed}
-
--- names exchanged in pairs
-pub record Swap : Type 0 where
-  pub to : Name → Name
-  pub back : (n : Name) → to (to n) ≡ n
-  pub growth : ℕ
-  pub grows : (n : Name) → length (to n) ≤ length n + growth
-
-abbrev pub port_to : Swap → Port → Port
-port_to x p = record { node = x.to p.node; port = p.port }
-
-abbrev pub fed_to : Swap → Option Port → Option Port
-fed_to x None = None
-fed_to x (Some p) = Some (port_to x p)
-
-abbrev pub renamed : Swap → Circuit → Circuit
-renamed x c = record { kind_at = λ n. c.kind_at (x.to n); feeder = λ p. fed_to x (c.feeder (port_to x p)) }
 
 abbrev pub state_to : Swap → CircuitState → CircuitState
 state_to x s = record { wires = λ p. s.wires (port_to x p); slots = λ n. s.slots (x.to n) }
@@ -67,7 +51,7 @@ share_from_to : (x : Swap) (n : Name) (side : List (List Token)) (o : Option Por
 share_from_to x n side None = refl
 share_from_to x n side (Some q) = ap (λ b. if b then at_port side q.port else []) (test_both x q.node n)
 
-step_to : (x : Swap) (c : Circuit) (s : CircuitState) (n : Name) (l : Label) (t : CircuitState) → Step c s n l t → Step (renamed x c) (state_to x s) (x.to n) l (state_to x t)
+pub step_to : (x : Swap) (c : Circuit) (s : CircuitState) (n : Name) (l : Label) (t : CircuitState) → Step c s n l t → Step (renamed x c) (state_to x s) (x.to n) l (state_to x t)
 step_to x c s n l t st =
     record {
       kind = st.kind;
@@ -98,7 +82,7 @@ initial_to : (x : Swap) (c : Circuit) (o : Option Port) → initial (kind_of (re
 initial_to x c None = refl
 initial_to x c (Some q) = ap (λ z. initial (c.kind_at z)) (x.back q.node)
 
-start_to : (x : Swap) (c : Circuit) → start (renamed x c) ≡ state_to x (start c)
+pub start_to : (x : Swap) (c : Circuit) → start (renamed x c) ≡ state_to x (start c)
 start_to x c = λ i. record { wires = λ p. initial_to x c (c.feeder (port_to x p)) i; slots = λ n. [] }
 
 -- a renamed circuit shows the renamed traces

@@ -12,8 +12,9 @@ use Rattle.circuits.specs.Circuit.{Circuit, Typed}
 use Rattle.circuits.specs.Run.{Move, Shows}
 use Rattle.circuits.specs.Plug.{PlugLink, plug, Apart, Joins, UsesNoneTwice, CanPlug}
 use Rattle.circuits.specs.Refines.{SamePorts, Refines}
+use Rattle.circuits.specs.Renaming.{Swap, port_to, fed_to, renamed}
 use Rattle.circuits.proofs.Names.{name_cases}
-use Rattle.circuits.proofs.Renaming.{Swap, port_to, fed_to, renamed, moves_to, link_to, links_to, shows_to, plug_to, renamed_back, moves_back, links_back, renamed_fixed, to_inj}
+use Rattle.circuits.proofs.Renaming.{moves_to, link_to, links_to, shows_to, plug_to, renamed_back, moves_back, links_back, renamed_fixed, to_inj}
 
 pub port_back : (x : Swap) (p : Port) → port_to x (port_to x p) ≡ p
 port_back x p = λ i. record { node = x.back p.node i; port = p.port }

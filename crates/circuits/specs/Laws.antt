@@ -15,6 +15,7 @@ use Rattle.circuits.specs.Plug.{PlugLink, plug, Apart, CanPlug}
 use Rattle.circuits.specs.Refines.{Refines}
 use Rattle.circuits.specs.Buffers.{first_port, drop_node, drop_all, CanDropBuffer, CanDropEach, IsWithoutBuffer}
 use Rattle.circuits.specs.Replacing.{replaced, IsPart, IsNew, Ends}
+use Rattle.circuits.specs.Renaming.{Swap, renamed, KeepsEnds}
 use Rattle.circuits.specs.Root.{Root}
 use Rattle.circuits.specs.Drains.{IsInit, IsRest, Drains}
 
@@ -66,6 +67,18 @@ WholeRefines = (rest new old : Circuit) (ls : List PlugLink) → Typed rest → 
 abbrev pub ReplacementRefines : Type 0
 ReplacementRefines = (g left right : Circuit) (target : Port → Option Port) (ends : List Name) →
     IsPart g left target → Ends left ends → IsNew g left right → Refines right left → Refines (replaced g left right target) g
+
+-- a circuit shows nothing new where its inner nodes have other names
+abbrev pub RenamedRefines : Type 0
+RenamedRefines = (x : Swap) (c : Circuit) → Typed c → KeepsEnds x c → Refines (renamed x c) c
+
+-- nor does it show less
+abbrev pub RefinesRenamed : Type 0
+RefinesRenamed = (x : Swap) (c : Circuit) → Typed c → KeepsEnds x c → Refines c (renamed x c)
+
+-- what refines another circuit refines it where both have other names, and their Entries and Exits too
+abbrev pub RenamingKeepsRefines : Type 0
+RenamingKeepsRefines = (x : Swap) (new old : Circuit) → Refines new old → Refines (renamed x new) (renamed x old)
 
 -- without a Buffer a circuit shows nothing new
 abbrev pub DropRefines : Type 0

@@ -8,7 +8,7 @@
 //!   runs, and the trace that is seen of a run.
 //! - `Refines`: in no surrounding circuit does the one show anything that the other does not.
 //! - `Buffers`: a circuit, and a graph, without a Buffer or a Fork of one output, and a circuit without several.
-//! - `Replacing`: a part of a circuit, and another circuit in its place.
+//! - `Replacing`: a part of a circuit, and another circuit in its place. `Renaming`: a circuit under other names.
 //! - `Root`, `Drains`: where the tokens of an input come from, the state at rest, and what a circuit drains.
 //! - `TaggerOrder`: what a Tagger gave out in a run. `Laws`: the laws that the functions below prove.
 //!
@@ -28,7 +28,7 @@
 //! The crate `circuit_examples` tries the definitions out on small graphs.
 #![tactic(auto)]
 
-ghost use Rattle.circuits.specs.Laws.{StartIsState, StepKeepsState, RunReachesState, FiringIsOne, TaggerKeepsOrder, RefinesItself, RefinesInSteps, RefinesAlone, PlugIsTyped, WholeRefines, ReplacementRefines, DropRefines, PutRefines, DropAllRefines, PutAllRefines, CircuitIsTyped, GraphIsTyped, GraphDropRefines, GraphPutRefines, RootIsOne, RingHasNoRoot, RestIsOne, GraphRests, RestsWithoutInit, DropDrains, PutDrains, GraphDropDrains, GraphPutDrains};
+ghost use Rattle.circuits.specs.Laws.{StartIsState, StepKeepsState, RunReachesState, FiringIsOne, TaggerKeepsOrder, RefinesItself, RefinesInSteps, RefinesAlone, PlugIsTyped, WholeRefines, ReplacementRefines, RenamedRefines, RefinesRenamed, RenamingKeepsRefines, DropRefines, PutRefines, DropAllRefines, PutAllRefines, CircuitIsTyped, GraphIsTyped, GraphDropRefines, GraphPutRefines, RootIsOne, RingHasNoRoot, RestIsOne, GraphRests, RestsWithoutInit, DropDrains, PutDrains, GraphDropDrains, GraphPutDrains};
 
 use fun_expr::fun_value_fits;
 use op_table::value_fits;
@@ -84,6 +84,17 @@ pub fn whole_refines()
 /// whatever stands around the part.
 pub fn replacement_refines()
     ensures { ReplacementRefines }
+{
+    value_fits();
+    fun_value_fits();
+}
+
+/// A circuit shows the same whatever the names of its inner nodes, and what refines another circuit refines it where names
+/// of Entries and Exits change in both, too.
+pub fn names_show_nothing()
+    ensures new { RenamedRefines }
+    ensures old { RefinesRenamed }
+    ensures both { RenamingKeepsRefines }
 {
     value_fits();
     fun_value_fits();

@@ -1,11 +1,10 @@
 -- What a circuit drains without a Buffer it drains with it: the Buffer passes on at once what comes.
-use Rattle.std.proofs.Common.{◌≡◌, ◌≢◌, ℕ, inl, inr, refl, sym, ap, subst, ◌∙◌, List, [], ◌∷◌, ◌++◌, Option, Some, None, append-nil}
+use Rattle.std.proofs.Common.{◌≡◌, ◌≢◌, ℕ, inl, inr, refl, sym, ap, subst, ◌∙◌, List, [], ◌∷◌, ◌++◌, Option, Some, None}
 use Rattle.std.specs.List.{AllByRecursion}
 use Rattle.std.proofs.lemmas.Option.{same_Some}
 use Rattle.components.specs.declared.kind.Kind.{Kind}
 use Rattle.components.specs.declared.kind.Kind.TheVariants.{Entry, Exit}
 use Rattle.components.specs.Name.{Name, Port}
-use Rattle.components.specs.Kind.{Shape}
 use Rattle.circuits.specs.PortTokens.{Token, one, share, share_from}
 use Rattle.circuits.specs.Circuit.{Circuit, kind_of, Typed}
 use Rattle.circuits.specs.CircuitState.{CircuitState, start, initial}
@@ -20,7 +19,7 @@ use Rattle.circuits.proofs.Steps.{acts_at, share_same}
 use Rattle.circuits.proofs.Simulation.{firings_then}
 use Rattle.circuits.proofs.Buffers.Steps.{CanDrop, Ahead, pass, passing, passed, pass_ahead, down_to, down_step, up_to, up_step, up_ahead, level, start_ahead, kind_dropped}
 use Rattle.circuits.proofs.Buffers.Circuits.{can_drop_of, in_is}
-use Rattle.circuits.proofs.Buffers.Drains.{through_of, no_exit, led_without, led_with, loaded_ahead}
+use Rattle.circuits.proofs.Buffers.Drains.{through_of, led_without, led_with, loaded_ahead}
 use Rattle.circuits.proofs.Rest.Inits.{Comes, start_comes, led_comes}
 
 none_behind : (xs ys : List Token) → xs ++ ys ≡ [] → ys ≡ []

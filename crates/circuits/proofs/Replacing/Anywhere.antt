@@ -9,8 +9,9 @@ use Rattle.circuits.specs.Values.{ValuesFit}
 use Rattle.circuits.specs.Circuit.{Circuit}
 use Rattle.circuits.specs.Refines.{Refines}
 use Rattle.circuits.specs.Replacing.{is_inner, replaced, IsPart, IsNew, In, In.head, In.tail, NoneTwice, Ends}
+use Rattle.circuits.specs.Renaming.{Swap, port_to, fed_to, renamed}
 use Rattle.circuits.proofs.Beside.{none_some}
-use Rattle.circuits.proofs.Renaming.{Swap, port_to, fed_to, renamed, to_inj}
+use Rattle.circuits.proofs.Renaming.{to_inj}
 use Rattle.circuits.proofs.Transitive.{typed_to, port_back, fed_source, swap_away, away_fixed, away_names}
 use Rattle.circuits.proofs.Renamed.{ports_to, renamed_refines}
 use Rattle.circuits.proofs.Replacing.Sorts.{inner_some_at}

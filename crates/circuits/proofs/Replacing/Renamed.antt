@@ -8,7 +8,8 @@ use Rattle.components.specs.Kind.{Shape, ins, outs}
 use Rattle.circuits.specs.Circuit.{Circuit, Typed}
 use Rattle.circuits.specs.Refines.{SamePorts}
 use Rattle.circuits.specs.Replacing.{is_inner, is_entry, follow, outside, crossing, replaced, IsPart}
-use Rattle.circuits.proofs.Renaming.{Swap, port_to, fed_to, renamed, circuit_same}
+use Rattle.circuits.specs.Renaming.{Swap, port_to, fed_to, renamed}
+use Rattle.circuits.proofs.Renaming.{circuit_same}
 use Rattle.circuits.proofs.Transitive.{port_back}
 use Rattle.circuits.proofs.Replacing.Sorts.{View, entry, exit, inner, view, inner_no_entry}
 
