@@ -20,8 +20,6 @@ mod line;
 mod refusal;
 mod ruling;
 mod status;
-#[cfg(test)]
-mod tests;
 mod words;
 
 pub use laws::{

@@ -12,8 +12,6 @@ mod reader;
 mod runs;
 mod scan;
 mod state;
-#[cfg(test)]
-mod tests;
 mod token;
 
 pub use blanks::skip_blank;

@@ -14,8 +14,6 @@ mod OpenPorts
 mod Counting
 mod Exchanging
 mod Exchanged
-mod Looped
-mod Crossed
 mod Grown
 mod InOrder
 mod SameGraphs

@@ -30,8 +30,6 @@ mod open;
 mod place;
 mod same;
 mod steps;
-#[cfg(test)]
-mod tests;
 mod typed;
 
 pub use exchange::End;

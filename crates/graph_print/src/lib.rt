@@ -13,8 +13,6 @@ mod kinds;
 mod node_entry;
 mod ports;
 mod printer;
-#[cfg(test)]
-mod tests;
 mod texts;
 
 pub use printer::text_of;

@@ -18,6 +18,3 @@ pub use sink::Sink;
 pub use source::{Failed, Source};
 pub use std_streams::{StdSink, StdSource};
 pub use transfer::{ReadAllFault, read_all, write_all};
-
-#[cfg(test)]
-mod tests;

@@ -15,8 +15,6 @@ mod bitwise;
 mod laws;
 mod op;
 mod shift;
-#[cfg(test)]
-mod tests;
 mod typing;
 mod value;
 mod word;

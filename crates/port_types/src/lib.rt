@@ -23,8 +23,6 @@ mod port_text;
 mod shape;
 mod side;
 mod tag;
-#[cfg(test)]
-mod tests;
 mod text;
 mod token;
 

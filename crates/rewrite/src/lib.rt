@@ -15,8 +15,6 @@
 
 mod laws;
 mod stripping;
-#[cfg(test)]
-mod tests;
 
 pub use laws::{
     one_stripped_graph, only_rings_are_left, stripped_drains, stripped_refines, turns_strip,

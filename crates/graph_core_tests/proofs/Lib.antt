@@ -1,0 +1,2 @@
+mod Looped
+mod Crossed

@@ -1,5 +1,0 @@
-use Rattle.std.proofs.Common.{◌≡◌, map, take}
-use Rattle.graph_print.proofs.tests.kept.Given as goal
-
-abbrev pub invariant-loop-pair : goal.invariant-loop-pair
-invariant-loop-pair l = l.kept.items ≡ map (λ pair. pair.now) (take l.pair-index l.pair-items)
