@@ -19,6 +19,7 @@ mod Renaming
 mod Transitive
 mod Renamed
 mod Replacing
+mod ReplacedGraph
 mod Alone
 mod GraphCircuits
 mod TaggerOrder

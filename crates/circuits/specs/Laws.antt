@@ -1,10 +1,11 @@
 -- The laws of circuits.
-use Rattle.std.specs.Prelude.{◌≡◌, ℕ, drop, List, Option, Some}
+use Rattle.std.specs.Prelude.{◌≡◌, ◌↔◌, ℕ, drop, List, Option, Some, None, if◌then◌else◌}
+use Rattle.std.specs.FinMap as map
 use Rattle.components.specs.declared.kind.Kind.{Kind}
 use Rattle.components.specs.declared.kind.Kind.TheVariants.{Buffer, Tagger}
 use Rattle.components.specs.Name.{Name, Port}
 use Rattle.components.specs.Kind.{Shape}
-use Rattle.components.specs.NamedGraph.{NamedGraph, IsTyped}
+use Rattle.components.specs.NamedGraph.{NamedGraph, IsTyped, HasAllowedNames}
 use Rattle.circuits.specs.PortTokens.{Token}
 use Rattle.circuits.specs.Circuit.{Circuit, Typed, circuit_of}
 use Rattle.circuits.specs.CircuitState.{CircuitState, start, IsStateOf}
@@ -15,6 +16,7 @@ use Rattle.circuits.specs.Plug.{PlugLink, plug, Apart, CanPlug}
 use Rattle.circuits.specs.Refines.{Refines}
 use Rattle.circuits.specs.Buffers.{first_port, drop_node, drop_all, CanDropBuffer, CanDropEach, IsWithoutBuffer}
 use Rattle.circuits.specs.Replacing.{replaced, IsPart, IsNew, Ends}
+use Rattle.circuits.specs.ReplacedGraph.{consumer, has_inner, replaced_graph, Matches, IsRule}
 use Rattle.circuits.specs.Renaming.{Swap, renamed, KeepsEnds}
 use Rattle.circuits.specs.Root.{Root}
 use Rattle.circuits.specs.Drains.{IsInit, IsRest, Drains}
@@ -67,6 +69,34 @@ WholeRefines = (rest new old : Circuit) (ls : List PlugLink) → Typed rest → 
 abbrev pub ReplacementRefines : Type 0
 ReplacementRefines = (g left right : Circuit) (target : Port → Option Port) (ends : List Name) →
     IsPart g left target → Ends left ends → IsNew g left right → Refines right left → Refines (replaced g left right target) g
+
+-- in a typed graph an output feeds the input that is found for it
+abbrev pub ConsumerIsFed : Type 0
+ConsumerIsFed = (g : NamedGraph) → IsTyped g → (p q : Port) → (map.get g.feeders p ≡ Some q) ↔ (consumer g q ≡ Some p)
+
+-- a replaced graph has the inner nodes of right, none of left, and the other nodes of the graph, with what they keep
+abbrev pub ReplacedNodes : Type 0
+ReplacedNodes = (g left right : NamedGraph) (n : Name) → map.get (replaced_graph g left right).nodes n ≡
+    (if has_inner right n then map.get right.nodes n else (if has_inner left n then None else map.get g.nodes n))
+
+-- and its circuit is the replaced circuit, at every name and every port
+abbrev pub ReplacedGraphIsCircuit : Type 0
+ReplacedGraphIsCircuit = (g left right : NamedGraph) →
+    circuit_of (replaced_graph g left right) ≡ replaced (circuit_of g) (circuit_of left) (circuit_of right) (consumer left)
+
+-- a typed graph in which a rule matches is typed once right is in the place of left
+abbrev pub ReplacedGraphIsTyped : Type 0
+ReplacedGraphIsTyped = (g left right : NamedGraph) → IsTyped g → IsRule left right → Matches g left right →
+    IsTyped (replaced_graph g left right)
+
+-- its names are allowed where those of the graph and of right are
+abbrev pub ReplacedGraphHasNames : Type 0
+ReplacedGraphHasNames = (g left right : NamedGraph) → HasAllowedNames g → HasAllowedNames right → HasAllowedNames (replaced_graph g left right)
+
+-- and it refines the graph where right refines left
+abbrev pub GraphReplacementRefines : Type 0
+GraphReplacementRefines = (g left right : NamedGraph) → IsTyped g → IsRule left right → Matches g left right →
+    Refines (circuit_of right) (circuit_of left) → Refines (circuit_of (replaced_graph g left right)) (circuit_of g)
 
 -- a circuit shows nothing new where its inner nodes have other names
 abbrev pub RenamedRefines : Type 0

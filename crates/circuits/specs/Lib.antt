@@ -7,6 +7,7 @@ pub mod Plug
 pub mod Refines
 pub mod Buffers
 pub mod Replacing
+pub mod ReplacedGraph
 pub mod Renaming
 pub mod TaggerOrder
 pub mod Root

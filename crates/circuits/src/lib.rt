@@ -8,7 +8,8 @@
 //!   runs, and the trace that is seen of a run.
 //! - `Refines`: in no surrounding circuit does the one show anything that the other does not.
 //! - `Buffers`: a circuit, and a graph, without a Buffer or a Fork of one output, and a circuit without several.
-//! - `Replacing`: a part of a circuit, and another circuit in its place. `Renaming`: a circuit under other names.
+//! - `Replacing`: a part of a circuit, and another circuit in its place. `ReplacedGraph`: the same for graphs by names, and when
+//!   a rule matches there. `Renaming`: a circuit under other names.
 //! - `Root`, `Drains`: where the tokens of an input come from, the state at rest, and what a circuit drains.
 //! - `TaggerOrder`: what a Tagger gave out in a run. `Laws`: the laws that the functions below prove.
 //!
@@ -28,7 +29,7 @@
 //! The crate `circuit_examples` tries the definitions out on small graphs.
 #![tactic(auto)]
 
-ghost use Rattle.circuits.specs.Laws.{StartIsState, StepKeepsState, RunReachesState, FiringIsOne, TaggerKeepsOrder, RefinesItself, RefinesInSteps, RefinesAlone, PlugIsTyped, WholeRefines, ReplacementRefines, RenamedRefines, RefinesRenamed, RenamingKeepsRefines, DropRefines, PutRefines, DropAllRefines, PutAllRefines, CircuitIsTyped, GraphIsTyped, GraphDropRefines, GraphPutRefines, RootIsOne, RingHasNoRoot, RestIsOne, GraphRests, RestsWithoutInit, DropDrains, PutDrains, GraphDropDrains, GraphPutDrains};
+ghost use Rattle.circuits.specs.Laws.{StartIsState, StepKeepsState, RunReachesState, FiringIsOne, TaggerKeepsOrder, RefinesItself, RefinesInSteps, RefinesAlone, PlugIsTyped, WholeRefines, ReplacementRefines, ConsumerIsFed, ReplacedNodes, ReplacedGraphIsCircuit, ReplacedGraphIsTyped, ReplacedGraphHasNames, GraphReplacementRefines, RenamedRefines, RefinesRenamed, RenamingKeepsRefines, DropRefines, PutRefines, DropAllRefines, PutAllRefines, CircuitIsTyped, GraphIsTyped, GraphDropRefines, GraphPutRefines, RootIsOne, RingHasNoRoot, RestIsOne, GraphRests, RestsWithoutInit, DropDrains, PutDrains, GraphDropDrains, GraphPutDrains};
 
 use fun_expr::fun_value_fits;
 use op_table::value_fits;
@@ -84,6 +85,24 @@ pub fn whole_refines()
 /// whatever stands around the part.
 pub fn replacement_refines()
     ensures { ReplacementRefines }
+{
+    value_fits();
+    fun_value_fits();
+}
+
+/// A graph with another graph in the place of a part, by look-ups: the node of each name, and what feeds each input.
+pub fn replaced_graph_as_circuit()
+    ensures consumer { ConsumerIsFed }
+    ensures nodes { ReplacedNodes }
+    ensures circuit { ReplacedGraphIsCircuit }
+{}
+
+/// A typed graph in which a rule matches stays typed, keeps allowed names, and refines what it was if the new part refines the
+/// old one.
+pub fn graph_replacement_refines()
+    ensures typed { ReplacedGraphIsTyped }
+    ensures names { ReplacedGraphHasNames }
+    ensures refines { GraphReplacementRefines }
 {
     value_fits();
     fun_value_fits();

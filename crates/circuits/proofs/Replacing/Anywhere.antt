@@ -6,8 +6,8 @@ use Rattle.components.specs.declared.kind.Kind.{Kind}
 use Rattle.components.specs.declared.kind.Kind.TheVariants.{Entry, Exit}
 use Rattle.components.specs.Name.{Name, Port}
 use Rattle.circuits.specs.Values.{ValuesFit}
-use Rattle.circuits.specs.Circuit.{Circuit}
-use Rattle.circuits.specs.Refines.{Refines}
+use Rattle.circuits.specs.Circuit.{Circuit, Typed}
+use Rattle.circuits.specs.Refines.{SamePorts, Refines}
 use Rattle.circuits.specs.Replacing.{is_inner, replaced, IsPart, IsNew, In, In.head, In.tail, NoneTwice, Ends}
 use Rattle.circuits.specs.Renaming.{Swap, port_to, fed_to, renamed}
 use Rattle.circuits.proofs.Beside.{none_some}
@@ -17,12 +17,12 @@ use Rattle.circuits.proofs.Renamed.{ports_to, renamed_refines}
 use Rattle.circuits.proofs.Replacing.Sorts.{inner_some_at}
 use Rattle.circuits.proofs.Replacing.Cutting.{Cut}
 use Rattle.circuits.proofs.Replacing.Welding.{FitsIn}
-use Rattle.circuits.proofs.Replacing.Replaced.{replaced_law}
+use Rattle.circuits.proofs.Replacing.Replaced.{replaced_is_typed, replaced_law}
 use Rattle.circuits.proofs.Replacing.Renamed.{target_to, replaced_same}
 
-module _ (g left right : Circuit) (target : Port → Option Port) (names : List Name) (pt : IsPart g left target) (es : Ends left names) (new : IsNew g left right) (r : Refines right left) where
+module _ (g left right : Circuit) (target : Port → Option Port) (names : List Name) (pt : IsPart g left target) (es : Ends left names) (new : IsNew g left right) (tr : Typed right) (ports : SamePorts right left) where
   size : ℕ
-  size = pt.whole.names.0 + (pt.part.names.0 + r.new_typed.names.0)
+  size = pt.whole.names.0 + (pt.part.names.0 + tr.names.0)
 
   -- the Entries and Exits alone, and the inner nodes alone
   abbrev only : (Bool → Bool) → Circuit → Circuit
@@ -59,7 +59,7 @@ module _ (g left right : Circuit) (target : Port → Option Port) (names : List 
 
   short_right : (n : Name) (k : Kind) → right.kind_at n ≡ Some k → length n < size
   unfolding size
-  short_right n k e = omega (arith, r.new_typed.names.1 n k e)
+  short_right n k e = omega (arith, tr.names.1 n k e)
 
   short_ends : (n : Name) (k : Kind) → (only no_of left).kind_at n ≡ Some k → length n < size
   short_ends n k e = short_left n k (only_ends left n k e).1
@@ -76,8 +76,8 @@ module _ (g left right : Circuit) (target : Port → Option Port) (names : List 
       (λ m a p. short_left m a (only_inner left m a p).1) n k (ap (λ b. if b then left.kind_at n else None) i ∙ e)
 
   end_is_end : (n : Name) (k : Kind) → left.kind_at n ≡ Some k → is_inner (Some k) ≡ false → is_inner (right.kind_at n) ≡ false
-  end_is_end n (Entry a) e i = ap is_inner ((r.ports.entries n a).1 e)
-  end_is_end n (Exit a) e i = ap is_inner ((r.ports.exits n a).1 e)
+  end_is_end n (Entry a) e i = ap is_inner ((ports.entries n a).1 e)
+  end_is_end n (Exit a) e i = ap is_inner ((ports.exits n a).1 e)
   end_is_end n _ e i = absurd (true≢false i)
 
   keep_right : (n : Name) → is_inner (right.kind_at n) ≡ true → x.to n ≡ n
@@ -179,16 +179,22 @@ module _ (g left right : Circuit) (target : Port → Option Port) (names : List 
   fits_in : FitsIn g (renamed x left) (renamed x right) double
   fits_in =
       record {
-        typed = typed_to x right r.new_typed;
-        ports = ports_to x right left r.ports;
+        typed = typed_to x right tr;
+        ports = ports_to x right left ports;
         short = short_renamed right short_right;
         new = λ n k e i.
             let keep : x.to n ≡ n = sym (keep_right (x.to n) (ap is_inner e ∙ i)) ∙ x.back n in
             elim (new n k (ap right.kind_at (sym keep) ∙ e) i) [ inl a ↦ inl a | inr a ↦ inr (ap (λ z. is_inner (left.kind_at z)) keep ∙ a) ];
       }
 
+  -- what has the Entries and Exits of the part leaves the circuit typed in its place
+  pub typed_anywhere : Typed (replaced g left right target)
+  typed_anywhere =
+      subst Typed (replaced_same g left right target pt tr ports x keep_left keep_right)
+      (replaced_is_typed g (renamed x left) (target_to x target) double cut (renamed x right) (names_to names) ends_to fits_in)
+
   -- what refines the part refines the circuit in its place
-  pub replaced_anywhere : ValuesFit → Refines (replaced g left right target) g
-  replaced_anywhere fits =
-      subst (λ z. Refines z g) (replaced_same g left right target pt r.new_typed r.ports x keep_left keep_right)
+  pub replaced_anywhere : ValuesFit → Refines right left → Refines (replaced g left right target) g
+  replaced_anywhere fits r =
+      subst (λ z. Refines z g) (replaced_same g left right target pt tr ports x keep_left keep_right)
       (replaced_law g (renamed x left) (target_to x target) double cut fits (renamed x right) (names_to names) ends_to fits_in (renamed_refines x right left r))

@@ -16,7 +16,7 @@ use Rattle.circuits.proofs.Renaming.{circuit_same}
 use Rattle.circuits.proofs.Transitive.{refines_then}
 use Rattle.circuits.proofs.Plugging.Links.{plug_typed}
 use Rattle.circuits.proofs.Plugging.Parts.{whole_refines}
-use Rattle.circuits.proofs.Buffers.Several.{CanDropAll, drop_all_refines, undrop_all_refines}
+use Rattle.circuits.proofs.Buffers.Several.{CanDropAll, drop_all_typed, drop_all_refines, undrop_all_refines}
 use Rattle.circuits.proofs.Replacing.Sorts.{View, entry, exit, inner, view, inner_no_entry}
 use Rattle.circuits.proofs.Replacing.Cutting.{Cut, rest_of, rest_typed, inner_of, inner_is, inner_output, left_input}
 use Rattle.circuits.proofs.Replacing.Welding.{FitsIn, can, can_drop, welded_is}
@@ -86,6 +86,14 @@ module _ (g left : Circuit) (target : Port → Option Port) (size : ℕ) (h : Cu
         short = h.short_part;
         new = λ n k e i. inr (inner_is g left target size h n k e i);
       }
+
+  -- what has the Entries and Exits of left leaves g typed in its place
+  pub replaced_is_typed : (right : Circuit) (ends : List Name) → Ends left ends → FitsIn g left right size → Typed (replaced g left right target)
+  replaced_is_typed right ends es f =
+      let rest : Circuit = rest_of g left target size in
+      subst Typed (welded_is g left right target size ends h es f)
+      (drop_all_typed (exits_of size left ends) (plug rest (links_of size left ends) right) (can_drop g left right target size ends h es f)
+      (plug_typed rest right (links_of size left ends) (rest_typed g left target size h) f.typed (can g left right target size ends h es f)))
 
   -- what refines left refines g in its place
   pub replaced_law : ValuesFit → (right : Circuit) (ends : List Name) → Ends left ends → FitsIn g left right size → Refines right left → Refines (replaced g left right target) g
