@@ -68,34 +68,45 @@ module _ (g left right : NamedGraph) where
       ∙ joined (has_inner right n) (has_inner left n) (map.get right.nodes n) (map.get g.nodes n)
 
   -- what feeds an input
+  abbrev new_source : Option Port → Option Port
+  new_source = outside (circuit_of g) (circuit_of right) (consumer left)
 
-  chosen_new : (b : Bool) (o : Option Port) → option_and_then (λ q. outside (circuit_of g) (circuit_of right) (consumer left) (Some q)) (cond b o None) ≡ cond b (outside (circuit_of g) (circuit_of right) (consumer left) o) None
+  abbrev old_source : Option Port → Option Port
+  old_source = crossing (circuit_of g) (circuit_of left) (circuit_of right) (consumer left)
+
+  abbrev into_new : FinMap port_cmp Port
+  into_new = map.retain_keys right.feeders (λ r. has_inner right r.node)
+
+  abbrev into_old : FinMap port_cmp Port
+  into_old = map.retain_keys g.feeders (λ r. stays left right r.node)
+
+  chosen_new : (b : Bool) (o : Option Port) → option_and_then (λ q. new_source (Some q)) (cond b o None) ≡ cond b (new_source o) None
   chosen_new true None = refl
   chosen_new true (Some q) = refl
   chosen_new false o = refl
 
-  chosen_old : (b : Bool) (o : Option Port) → option_and_then (λ q. crossing (circuit_of g) (circuit_of left) (circuit_of right) (consumer left) (Some q)) (cond b o None) ≡ cond b (crossing (circuit_of g) (circuit_of left) (circuit_of right) (consumer left) o) None
+  chosen_old : (b : Bool) (o : Option Port) → option_and_then (λ q. old_source (Some q)) (cond b o None) ≡ cond b (old_source o) None
   chosen_old true None = refl
   chosen_old true (Some q) = refl
   chosen_old false o = refl
 
-  new_wires : (p : Port) → map.get (refed (outside (circuit_of g) (circuit_of right) (consumer left)) (map.retain_keys right.feeders (λ r. has_inner right r.node))) p ≡ cond (has_inner right p.node) (outside (circuit_of g) (circuit_of right) (consumer left) (map.get right.feeders p)) None
+  new_wires : (p : Port) → map.get (refed new_source into_new) p ≡ cond (has_inner right p.node) (new_source (map.get right.feeders p)) None
   new_wires p =
-      get-refed (outside (circuit_of g) (circuit_of right) (consumer left)) (map.retain_keys right.feeders (λ r. has_inner right r.node)) p
-      ∙ ap (option_and_then (λ q. outside (circuit_of g) (circuit_of right) (consumer left) (Some q))) (get_retained port_total port_same right.feeders (λ r. has_inner right r.node) p)
+      get-refed new_source into_new p
+      ∙ ap (option_and_then (λ q. new_source (Some q))) (get_retained port_total port_same right.feeders (λ r. has_inner right r.node) p)
       ∙ chosen_new (has_inner right p.node) (map.get right.feeders p)
 
-  old_wires : (p : Port) → map.get (refed (crossing (circuit_of g) (circuit_of left) (circuit_of right) (consumer left)) (map.retain_keys g.feeders (λ r. stays left right r.node))) p ≡ cond (stays left right p.node) (crossing (circuit_of g) (circuit_of left) (circuit_of right) (consumer left) (map.get g.feeders p)) None
+  old_wires : (p : Port) → map.get (refed old_source into_old) p ≡ cond (stays left right p.node) (old_source (map.get g.feeders p)) None
   old_wires p =
-      get-refed (crossing (circuit_of g) (circuit_of left) (circuit_of right) (consumer left)) (map.retain_keys g.feeders (λ r. stays left right r.node)) p
-      ∙ ap (option_and_then (λ q. crossing (circuit_of g) (circuit_of left) (circuit_of right) (consumer left) (Some q))) (get_retained port_total port_same g.feeders (λ r. stays left right r.node) p)
+      get-refed old_source into_old p
+      ∙ ap (option_and_then (λ q. old_source (Some q))) (get_retained port_total port_same g.feeders (λ r. stays left right r.node) p)
       ∙ chosen_old (stays left right p.node) (map.get g.feeders p)
 
   pub feeder_at : (p : Port) → map.get (replaced_graph g left right).feeders p ≡ (replaced (circuit_of g) (circuit_of left) (circuit_of right) (consumer left)).feeder p
   feeder_at p =
-      get-together port_total (refed (outside (circuit_of g) (circuit_of right) (consumer left)) (map.retain_keys right.feeders (λ r. has_inner right r.node))) (refed (crossing (circuit_of g) (circuit_of left) (circuit_of right) (consumer left)) (map.retain_keys g.feeders (λ r. stays left right r.node))) p
+      get-together port_total (refed new_source into_new) (refed old_source into_old) p
       ∙ (λ i. option_or (new_wires p i) (old_wires p i))
-      ∙ joined (has_inner right p.node) (has_inner left p.node) (outside (circuit_of g) (circuit_of right) (consumer left) (map.get right.feeders p)) (crossing (circuit_of g) (circuit_of left) (circuit_of right) (consumer left) (map.get g.feeders p))
+      ∙ joined (has_inner right p.node) (has_inner left p.node) (new_source (map.get right.feeders p)) (old_source (map.get g.feeders p))
 
   chosen_kind : (new old : Bool) (x y : Option Body) → kind_of_body (chosen new old x y) ≡ chosen new old (kind_of_body x) (kind_of_body y)
   chosen_kind true old x y = refl
