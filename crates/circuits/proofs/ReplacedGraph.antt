@@ -3,3 +3,4 @@ pub mod Lookups
 pub mod Consumers
 pub mod EndNames
 pub mod Circuits
+pub mod BufferRule

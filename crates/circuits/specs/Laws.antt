@@ -1,5 +1,5 @@
 -- The laws of circuits.
-use Rattle.std.specs.Prelude.{◌≡◌, ◌↔◌, ℕ, drop, List, Option, Some, None, if◌then◌else◌}
+use Rattle.std.specs.Prelude.{◌≡◌, ◌≢◌, ◌↔◌, ℕ, drop, List, Option, Some, None, if◌then◌else◌}
 use Rattle.std.specs.FinMap as map
 use Rattle.components.specs.declared.kind.Kind.{Kind}
 use Rattle.components.specs.declared.kind.Kind.TheVariants.{Buffer, Tagger}
@@ -17,6 +17,7 @@ use Rattle.circuits.specs.Refines.{Refines}
 use Rattle.circuits.specs.Buffers.{first_port, drop_node, drop_all, CanDropBuffer, CanDropEach, IsWithoutBuffer}
 use Rattle.circuits.specs.Replacing.{replaced, IsPart, IsNew, Ends}
 use Rattle.circuits.specs.ReplacedGraph.{consumer, has_inner, replaced_graph, Matches, IsRule}
+use Rattle.circuits.specs.BufferRule.{straight, buffered}
 use Rattle.circuits.specs.Renaming.{Swap, renamed, KeepsEnds}
 use Rattle.circuits.specs.Root.{Root}
 use Rattle.circuits.specs.Drains.{IsInit, IsRest, Drains}
@@ -97,6 +98,11 @@ ReplacedGraphHasNames = (g left right : NamedGraph) → HasAllowedNames g → Ha
 abbrev pub GraphReplacementRefines : Type 0
 GraphReplacementRefines = (g left right : NamedGraph) → IsTyped g → IsRule left right → Matches g left right →
     Refines (circuit_of right) (circuit_of left) → Refines (circuit_of (replaced_graph g left right)) (circuit_of g)
+
+-- the graph without a Buffer is the graph with an Entry wired to an Exit in the place of an Entry, the Buffer and an Exit in a row
+abbrev pub DropIsReplacement : Type 0
+DropIsReplacement = (h g : NamedGraph) (entry b exit : Name) (shape : Shape) → entry ≢ b → exit ≢ b → IsTyped g → IsWithoutBuffer h g b →
+    h ≡ replaced_graph g (buffered entry b exit shape) (straight entry exit shape)
 
 -- a circuit shows nothing new where its inner nodes have other names
 abbrev pub RenamedRefines : Type 0

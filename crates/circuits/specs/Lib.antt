@@ -8,6 +8,7 @@ pub mod Refines
 pub mod Buffers
 pub mod Replacing
 pub mod ReplacedGraph
+pub mod BufferRule
 pub mod Renaming
 pub mod TaggerOrder
 pub mod Root

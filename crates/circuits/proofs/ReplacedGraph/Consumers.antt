@@ -54,7 +54,10 @@ both_ways (e ∷ es) sorted once p q =
     let later = both_ways es (second _ _ sorted) (once_behind e es sorted once) p q in
     (found_turned e es sorted once p q later.0, turned_found e es sorted once p q later.1)
 
-pub fed_is_consumer : (g : NamedGraph) → IsTyped g → (p q : Port) → (finite.get g.feeders p ≡ Some q) ↔ (consumer g q ≡ Some p)
-fed_is_consumer g ty p q =
-    let both = both_ways (finite.entries g.feeders) (finite.entries_sorted g.feeders) (λ a b c f h. ty.once a b c (finite.get-entries g.feeders a ∙ f) (finite.get-entries g.feeders b ∙ h)) p q in
+pub found_consumer : (g : NamedGraph) → ((p r q : Port) → finite.get g.feeders p ≡ Some q → finite.get g.feeders r ≡ Some q → p ≡ r) → (p q : Port) → (finite.get g.feeders p ≡ Some q) ↔ (consumer g q ≡ Some p)
+found_consumer g once p q =
+    let both = both_ways (finite.entries g.feeders) (finite.entries_sorted g.feeders) (λ a b c f h. once a b c (finite.get-entries g.feeders a ∙ f) (finite.get-entries g.feeders b ∙ h)) p q in
     ((λ f. both.0 (sym (finite.get-entries g.feeders p) ∙ f)), (λ f. finite.get-entries g.feeders p ∙ both.1 f))
+
+pub fed_is_consumer : (g : NamedGraph) → IsTyped g → (p q : Port) → (finite.get g.feeders p ≡ Some q) ↔ (consumer g q ≡ Some p)
+fed_is_consumer g ty = found_consumer g ty.once
