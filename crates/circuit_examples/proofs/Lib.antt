@@ -5,3 +5,4 @@ mod WireDrains
 mod LoneTagger
 mod TaggerRefuses
 mod LoneInit
+mod BufferLeftOut

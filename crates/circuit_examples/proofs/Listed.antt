@@ -15,8 +15,9 @@ use Rattle.components.specs.Lookups.{same_test, other_test}
 use Rattle.components.specs.Orders.{name_total, port_total, port_same, port_cases}
 use Rattle.circuits.specs.Circuit.{Circuit, Wire, Typed, circuit_of, kind_of_body}
 use Rattle.circuits.specs.Buffers.{first_port}
+use Rattle.circuits.specs.BufferRule.{bare}
 use Rattle.circuits.specs.Laws.{GraphIsTyped}
-use Rattle.circuit_examples.specs.Listed.{bare, ListedNode, ListedWire, with_nodes, listed}
+use Rattle.circuit_examples.specs.Listed.{ListedNode, ListedWire, with_nodes, listed}
 use Rattle.circuits.proofs.Names.{name_cases}
 
 -- the circuit, spelled out
@@ -80,7 +81,7 @@ each_node P (node ∷ nodes) all n k e =
       | inr ne ↦ each_node P nodes all.1 n k (sym (ap (λ b. if b then Some node.kind else kind_in nodes n) ne.test) ∙ e)
     ]
 
-each_wire : (P : Port → Port → Type 0) (wires : List ListedWire) → AllByRecursion (λ wire. P wire.target wire.source) wires → (p q : Port) → feeder_in wires p ≡ Some q → P p q
+pub each_wire : (P : Port → Port → Type 0) (wires : List ListedWire) → AllByRecursion (λ wire. P wire.target wire.source) wires → (p q : Port) → feeder_in wires p ≡ Some q → P p q
 each_wire P [] all p q e = absurd (none-some q e)
 each_wire P (wire ∷ wires) all p q e =
     elim (port_cases p wire.target) [

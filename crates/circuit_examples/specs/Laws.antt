@@ -1,22 +1,26 @@
 -- What the examples show and what they refuse to show.
-use Rattle.std.specs.Prelude.{◌≡◌, ◌↔◌, ℕ, List, [], ◌∷◌}
+use Rattle.std.specs.Prelude.{◌≡◌, ◌≢◌, ◌↔◌, ℕ, List, [], ◌∷◌, Option}
 use Rattle.std.specs.List.{AllByRecursion}
 use Rattle.port_types.specs.Shape.{IsShape}
 use Rattle.port_types.specs.Token.{Fits}
 use Rattle.components.specs.declared.kind.Kind.TheVariants.{Init, Tagger}
-use Rattle.components.specs.Name.{Name}
+use Rattle.components.specs.Name.{Name, Port}
 use Rattle.components.specs.Kind.{Shape, field, KindOk}
 use Rattle.components.specs.NamedGraph.{IsTyped}
 use Rattle.circuits.specs.PortTokens.{Token, single, one}
 use Rattle.circuits.specs.Circuit.{circuit_of}
 use Rattle.circuits.specs.CircuitState.{CircuitState}
 use Rattle.circuits.specs.Run.{Shows}
+use Rattle.circuits.specs.Refines.{Refines}
 use Rattle.circuits.specs.Buffers.{first_port}
+use Rattle.circuits.specs.Replacing.{IsPart}
+use Rattle.circuits.specs.ReplacedGraph.{consumer, replaced_graph, Matches, IsRule}
 use Rattle.circuits.specs.Drains.{IsRest, Drains}
 use Rattle.circuit_examples.specs.Listed.{fed_at, taken_at}
 use Rattle.circuit_examples.specs.LoneWire.{entry_name, exit_name, lone_wire}
 use Rattle.circuit_examples.specs.LoneTagger.{fresh, work, back, results, lone_tagger}
 use Rattle.circuit_examples.specs.LoneInit.{bits, out, lone_init}
+use Rattle.circuit_examples.specs.BufferLeftOut.{row, short_row, old_part, new_part, taken_part}
 
 -- a wire from an Entry to an Exit is typed
 abbrev pub WireIsTyped : Type 0
@@ -66,3 +70,37 @@ InitRests = (value mark : ℕ) → (rest : CircuitState) × IsRest (circuit_of (
 abbrev pub InitDrains : Type 0
 InitDrains = (value mark : ℕ) (ins outs : Name → List Token) → KindOk (Init value mark) →
     Drains (circuit_of (lone_init value mark)) ins outs ↔ (AllByRecursion (Fits (field 1)) (ins bits) × (outs out ≡ single value ∷ ins bits))
+
+-- the rule that leaves the Buffer out is a rule
+abbrev pub LeavingOutIsRule : Type 0
+LeavingOutIsRule = (shape : Shape) → IsShape shape → IsRule (old_part shape) (new_part shape)
+
+-- it matches a Buffer of the same name and shape
+abbrev pub LeavingOutMatches : Type 0
+LeavingOutMatches = (shape : Shape) → Matches (row shape) (old_part shape) (new_part shape)
+
+-- so the old part is a part of that circuit
+abbrev pub OldPartIsPart : Type 0
+OldPartIsPart = (shape : Shape) → IsShape shape →
+    IsPart (circuit_of (row shape)) (circuit_of (old_part shape)) (consumer (old_part shape))
+
+-- and what comes of it is the Entry wired to the Exit
+abbrev pub LeavingOutGives : Type 0
+LeavingOutGives = (shape : Shape) → IsShape shape → replaced_graph (row shape) (old_part shape) (new_part shape) ≡ short_row shape
+
+-- which refines what it was
+abbrev pub LeavingOutRefines : Type 0
+LeavingOutRefines = (shape : Shape) → IsShape shape → Refines (circuit_of (short_row shape)) (circuit_of (row shape))
+
+-- a part whose Buffer has another shape is not found
+abbrev pub OtherShapeRefused : Type 0
+OtherShapeRefused = (shape other : Shape) → other ≢ shape → ¬ (Matches (row shape) (old_part other) (new_part other))
+
+-- and is no part of the circuit
+abbrev pub OtherShapeIsNoPart : Type 0
+OtherShapeIsNoPart = (shape other : Shape) (target : Port → Option Port) → other ≢ shape →
+    ¬ (IsPart (circuit_of (row shape)) (circuit_of (old_part other)) target)
+
+-- a new part is refused where one of its inner nodes has the name of a node that stays
+abbrev pub TakenNameRefused : Type 0
+TakenNameRefused = (shape : Shape) → ¬ (Matches (row shape) (old_part shape) (taken_part shape))

@@ -1,13 +1,12 @@
 -- Graphs that are listed, for trying out the definitions, and what is seen at their ports.
 use Rattle.std.specs.Prelude.{List, [], ◌∷◌}
-use Rattle.std.specs.FinMap as map
 use Rattle.components.specs.declared.kind.Kind.{Kind}
 use Rattle.components.specs.Name.{Name, Port}
-use Rattle.components.specs.Node.{Body}
 use Rattle.components.specs.NamedGraph.{NamedGraph, no_graph, with_node, with_wire}
 use Rattle.circuits.specs.PortTokens.{Token}
 use Rattle.circuits.specs.Firing.{Label.Feed, Label.Take}
 use Rattle.circuits.specs.Run.{Move}
+use Rattle.circuits.specs.BufferRule.{bare}
 
 -- a node of a graph, and a wire of it
 pub record ListedNode : Type 0 where
@@ -18,10 +17,7 @@ pub record ListedWire : Type 0 where
   pub source : Port
   pub target : Port
 
--- a node with no kept attributes
-abbrev pub bare : Kind → Body
-bare kind = record { kind = kind; kept = map.empty }
-
+-- nodes with no kept attributes
 abbrev pub with_nodes : List ListedNode → NamedGraph
 with_nodes [] = no_graph
 with_nodes (node ∷ nodes) = with_node (with_nodes nodes) node.name (bare node.kind)
