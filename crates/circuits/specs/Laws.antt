@@ -99,7 +99,13 @@ abbrev pub GraphReplacementRefines : Type 0
 GraphReplacementRefines = (g left right : NamedGraph) → IsTyped g → IsRule left right → Matches g left right →
     Refines (circuit_of right) (circuit_of left) → Refines (circuit_of (replaced_graph g left right)) (circuit_of g)
 
--- the graph without a Buffer is the graph with an Entry wired to an Exit in the place of an Entry, the Buffer and an Exit in a row
+-- the rule that puts an Entry wired to an Exit in the place of an Entry, a Buffer and an Exit in a row matches at each Buffer that can be left out
+abbrev pub BufferRuleMatches : Type 0
+BufferRuleMatches = (g : NamedGraph) (entry b exit : Name) (shape : Shape) → entry ≢ b → exit ≢ b → IsTyped g →
+    (circuit_of g).kind_at b ≡ Some (Buffer shape) → CanDropBuffer (circuit_of g) b →
+    Matches g (buffered entry b exit shape) (straight entry exit shape)
+
+-- and what comes of it is the graph without the Buffer
 abbrev pub DropIsReplacement : Type 0
 DropIsReplacement = (h g : NamedGraph) (entry b exit : Name) (shape : Shape) → entry ≢ b → exit ≢ b → IsTyped g → IsWithoutBuffer h g b →
     h ≡ replaced_graph g (buffered entry b exit shape) (straight entry exit shape)

@@ -17,7 +17,7 @@ use Rattle.circuits.specs.Replacing.{is_inner, outside, crossing, IsNew}
 abbrev pub has_inner : NamedGraph → Name → Bool
 has_inner g n = is_inner ((circuit_of g).kind_at n)
 
--- the input that an output feeds: the wires turned round
+-- the input that an output feeds, found among the wires turned round
 abbrev pub consumer : NamedGraph → Port → Option Port
 consumer g q = finite.find port_cmp q (map (λ wire. (wire.1, wire.0)) (finite.entries g.feeders))
 
@@ -25,22 +25,30 @@ consumer g q = finite.find port_cmp q (map (λ wire. (wire.1, wire.0)) (finite.e
 abbrev pub together : {K X : Type 0} {R : K → K → Ordering} → FinMap R X → FinMap R X → FinMap R X
 together m n = finite.from_entries (finite.entries m ++ finite.entries n)
 
--- each input with what feeds it from now on, where source says that of what fed it
+-- wires with other sources: source says what feeds an input from now on, by what fed it; an input that nothing feeds from now on falls away
 abbrev pub refed : (Option Port → Option Port) → FinMap port_cmp Port → FinMap port_cmp Port
 refed source wires = finite.from_entries (filter_map (λ wire. option_map (λ q. (wire.0, q)) (source (Some wire.1))) (finite.entries wires))
 
--- neither left nor right has an inner node of this name
+-- what feeds an input of a new node: what feeds it in right; where that is an Entry, what feeds in g the input that the Entry of this name feeds in left
+abbrev pub new_source : NamedGraph → NamedGraph → NamedGraph → Option Port → Option Port
+new_source g left right = outside (circuit_of g) (circuit_of right) (consumer left)
+
+-- what feeds an input of a node that stays: what fed it; where that was a node of left, the new source of the Exit that this node feeds in left
+abbrev pub kept_source : NamedGraph → NamedGraph → NamedGraph → Option Port → Option Port
+kept_source g left right = crossing (circuit_of g) (circuit_of left) (circuit_of right) (consumer left)
+
+-- the name is that of no inner node of left and of none of right
 abbrev pub stays : NamedGraph → NamedGraph → Name → Bool
 stays left right n = not (has_inner left n || has_inner right n)
 
--- g with right in the place of left: the inner nodes of right and the nodes of g that stay, and the wires into each, fed from now on by what stands in the place of what fed them
+-- g with right in the place of left: the inner nodes of right together with the nodes of g that stay, and the wires into them from their new sources
 abbrev pub replaced_graph : NamedGraph → NamedGraph → NamedGraph → NamedGraph
 replaced_graph g left right =
     record {
       nodes = together (finite.retain_keys right.nodes (has_inner right)) (finite.retain_keys g.nodes (stays left right));
       feeders = together
-          (refed (outside (circuit_of g) (circuit_of right) (consumer left)) (finite.retain_keys right.feeders (λ p. has_inner right p.node)))
-          (refed (crossing (circuit_of g) (circuit_of left) (circuit_of right) (consumer left)) (finite.retain_keys g.feeders (λ p. stays left right p.node)));
+          (refed (new_source g left right) (finite.retain_keys right.feeders (λ p. has_inner right p.node)))
+          (refed (kept_source g left right) (finite.retain_keys g.feeders (λ p. stays left right p.node)));
     }
 
 -- left is found in g, and right has room there: each inner node of left is a node of g with the same name and kind, between two of them g has the wires of left, and no inner node of right has the name of a node of g that stays

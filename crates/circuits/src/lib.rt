@@ -29,7 +29,7 @@
 //! The crate `circuit_examples` tries the definitions out on small graphs.
 #![tactic(auto)]
 
-ghost use Rattle.circuits.specs.Laws.{StartIsState, StepKeepsState, RunReachesState, FiringIsOne, TaggerKeepsOrder, RefinesItself, RefinesInSteps, RefinesAlone, PlugIsTyped, WholeRefines, ReplacementRefines, ConsumerIsFed, ReplacedNodes, ReplacedGraphIsCircuit, ReplacedGraphIsTyped, ReplacedGraphHasNames, GraphReplacementRefines, DropIsReplacement, RenamedRefines, RefinesRenamed, RenamingKeepsRefines, DropRefines, PutRefines, DropAllRefines, PutAllRefines, CircuitIsTyped, GraphIsTyped, GraphDropRefines, GraphPutRefines, RootIsOne, RingHasNoRoot, RestIsOne, GraphRests, RestsWithoutInit, DropDrains, PutDrains, GraphDropDrains, GraphPutDrains};
+ghost use Rattle.circuits.specs.Laws.{StartIsState, StepKeepsState, RunReachesState, FiringIsOne, TaggerKeepsOrder, RefinesItself, RefinesInSteps, RefinesAlone, PlugIsTyped, WholeRefines, ReplacementRefines, ConsumerIsFed, ReplacedNodes, ReplacedGraphIsCircuit, ReplacedGraphIsTyped, ReplacedGraphHasNames, GraphReplacementRefines, BufferRuleMatches, DropIsReplacement, RenamedRefines, RefinesRenamed, RenamingKeepsRefines, DropRefines, PutRefines, DropAllRefines, PutAllRefines, CircuitIsTyped, GraphIsTyped, GraphDropRefines, GraphPutRefines, RootIsOne, RingHasNoRoot, RestIsOne, GraphRests, RestsWithoutInit, DropDrains, PutDrains, GraphDropDrains, GraphPutDrains};
 
 use fun_expr::fun_value_fits;
 use op_table::value_fits;
@@ -108,9 +108,10 @@ pub fn graph_replacement_refines()
     fun_value_fits();
 }
 
-/// To drop a Buffer, or a Fork of one output, is to replace a part.
+/// To drop a Buffer is to replace a part: an Entry, the Buffer and an Exit in a row become the Entry wired to the Exit.
 pub fn dropped_is_replaced()
-    ensures { DropIsReplacement }
+    ensures matches { BufferRuleMatches }
+    ensures graph { DropIsReplacement }
 {}
 
 /// A circuit shows the same whatever the names of its inner nodes, and what refines another circuit refines it where names

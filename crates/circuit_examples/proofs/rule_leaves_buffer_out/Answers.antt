@@ -12,8 +12,8 @@ returns-clause-part c = λ shape.
     old_part_is_part shape c.graph_typed_as_circuit.ensures.circuit c.graph_typed_as_circuit.ensures.graph c.replaced_graph_as_circuit.ensures.consumer
 
 pub returns-clause-gives : goal.returns-clause-gives
-returns-clause-gives c = λ shape. left_out_gives shape c.graph_typed_as_circuit.ensures.graph c.dropped_is_replaced.ensures
+returns-clause-gives c = λ shape. left_out_gives shape c.graph_typed_as_circuit.ensures.graph c.dropped_is_replaced.ensures.graph
 
 pub returns-clause-refines : goal.returns-clause-refines
 returns-clause-refines c = λ shape.
-    left_out_refines shape c.graph_typed_as_circuit.ensures.graph c.graph_buffer_shows_nothing.ensures.dropped c.dropped_is_replaced.ensures c.graph_replacement_refines.ensures.refines
+    left_out_refines shape c.graph_typed_as_circuit.ensures.graph c.graph_buffer_shows_nothing.ensures.dropped c.dropped_is_replaced.ensures.graph c.graph_replacement_refines.ensures.refines

@@ -1,5 +1,5 @@
--- A Buffer that is dropped is replaced by the rule that leaves a Buffer out.
-use Rattle.std.proofs.Common.{◌≡◌, ◌≢◌, ◌⊎◌, inl, inr, refl, sym, ap, ◌∙◌, true, false, bytes_eq, if◌then◌else◌, Option, Some, None}
+-- A Buffer that is dropped is replaced by the rule that leaves a Buffer out, and the rule matches there.
+use Rattle.std.proofs.Common.{◌≡◌, ◌≢◌, ◌⊎◌, inl, inr, refl, sym, ap, ◌∙◌, true, false, bytes_eq, if◌then◌else◌, Option, Some, None, true≢false}
 use Rattle.std.specs.FinMap as map
 use Rattle.std.proofs.lemmas.Option.{none-some, same_Some}
 use Rattle.components.specs.declared.kind.Kind.{Kind}
@@ -11,13 +11,13 @@ use Rattle.components.specs.NamedGraph.{NamedGraph, IsTyped}
 use Rattle.components.specs.Lookups.{get_inserted, get_not_inserted, get_removed, get_not_removed}
 use Rattle.components.specs.Orders.{name_total, name_same, port_total, port_same, port_cases, other_bytes}
 use Rattle.circuits.specs.Circuit.{Circuit, circuit_of, kind_of_body}
-use Rattle.circuits.specs.Buffers.{first_port, bypass, IsWithoutBuffer}
-use Rattle.circuits.specs.Replacing.{is_inner, is_entry, follow, outside, crossing}
-use Rattle.circuits.specs.ReplacedGraph.{has_inner, consumer, replaced_graph}
+use Rattle.circuits.specs.Buffers.{first_port, bypass, CanDropBuffer, IsWithoutBuffer}
+use Rattle.circuits.specs.Replacing.{is_inner, is_entry, follow}
+use Rattle.circuits.specs.ReplacedGraph.{has_inner, consumer, new_source, kept_source, replaced_graph, Matches}
 use Rattle.circuits.specs.BufferRule.{bare, straight, buffered}
 use Rattle.circuits.proofs.Names.{name_cases}
 use Rattle.circuits.proofs.GraphCircuits.{circuit_typed}
-use Rattle.circuits.proofs.Buffers.Circuits.{out_is, can_drop_of}
+use Rattle.circuits.proofs.Buffers.Circuits.{out_is, in_is, can_drop_of}
 use Rattle.circuits.proofs.Buffers.Graphs.{without_circuit}
 use Rattle.circuits.proofs.ReplacedGraph.Lookups.{node_at, feeder_at}
 use Rattle.circuits.proofs.ReplacedGraph.Consumers.{found_consumer}
@@ -126,36 +126,36 @@ module _ (entry b exit : Name) (shape : Shape) (before : entry ≢ b) (after : e
 
   -- what feeds what b fed is what feeds b
   module _ (h g : NamedGraph) (ty : IsTyped g) (w : IsWithoutBuffer h g b) where
-    past_b : outside (circuit_of g) (circuit_of right) (consumer left) (follow (circuit_of right) (consumer left (first_port b))) ≡ map.get g.feeders (first_port b)
+    past_b : new_source g left right (follow (circuit_of right) (consumer left (first_port b))) ≡ map.get g.feeders (first_port b)
     past_b =
-        ap (λ o. outside (circuit_of g) (circuit_of right) (consumer left) (follow (circuit_of right) o)) b_feeds
-        ∙ ap (outside (circuit_of g) (circuit_of right) (consumer left)) exit_fed
+        ap (λ o. new_source g left right (follow (circuit_of right) o)) b_feeds
+        ∙ ap (new_source g left right) exit_fed
         ∙ ap (λ t. if t then follow (circuit_of g) (consumer left (first_port entry)) else Some (first_port entry)) entry_is
         ∙ ap (follow (circuit_of g)) entry_feeds
 
     source_at : (p q : Port) → map.get g.feeders p ≡ Some q →
-        crossing (circuit_of g) (circuit_of left) (circuit_of right) (consumer left) (Some q) ≡ bypass b (map.get g.feeders (first_port b)) (Some q)
+        kept_source g left right (Some q) ≡ bypass b (map.get g.feeders (first_port b)) (Some q)
     source_at p q e =
         elim (name_cases q.node b) [
           | inl same ↦
-              ap (λ t. if t then outside (circuit_of g) (circuit_of right) (consumer left) (follow (circuit_of right) (consumer left q)) else Some q) (one_inner q.node ∙ same.test)
-              ∙ ap (λ z. outside (circuit_of g) (circuit_of right) (consumer left) (follow (circuit_of right) (consumer left z)))
+              ap (λ t. if t then new_source g left right (follow (circuit_of right) (consumer left q)) else Some q) (one_inner q.node ∙ same.test)
+              ∙ ap (λ z. new_source g left right (follow (circuit_of right) (consumer left z)))
               (out_is (circuit_of g) b (can_drop_of (circuit_of g) b w.can) (circuit_typed g ty) p q e same.is)
               ∙ past_b ∙ sym (ap (λ t. if t then map.get g.feeders (first_port b) else Some q) same.test)
           | inr other ↦
-              ap (λ t. if t then outside (circuit_of g) (circuit_of right) (consumer left) (follow (circuit_of right) (consumer left q)) else Some q) (one_inner q.node ∙ other.test)
+              ap (λ t. if t then new_source g left right (follow (circuit_of right) (consumer left q)) else Some q) (one_inner q.node ∙ other.test)
               ∙ sym (ap (λ t. if t then map.get g.feeders (first_port b) else Some q) other.test)
         ]
 
     source : (p : Port) (o : Option Port) → map.get g.feeders p ≡ o →
-        crossing (circuit_of g) (circuit_of left) (circuit_of right) (consumer left) o ≡ bypass b (map.get g.feeders (first_port b)) o
+        kept_source g left right o ≡ bypass b (map.get g.feeders (first_port b)) o
     source p None e = refl
     source p (Some q) e = source_at p q e
 
     same_feeder : (p : Port) → map.get (replaced_graph g left right).feeders p ≡ map.get h.feeders p
     same_feeder p =
         feeder_at g left right p
-        ∙ ap (λ t. if t then outside (circuit_of g) (circuit_of right) (consumer left) (map.get right.feeders p) else (if has_inner left p.node then None else crossing (circuit_of g) (circuit_of left) (circuit_of right) (consumer left) (map.get g.feeders p))) (no_inner p.node)
+        ∙ ap (λ t. if t then new_source g left right (map.get right.feeders p) else (if has_inner left p.node then None else kept_source g left right (map.get g.feeders p))) (no_inner p.node)
         ∙ (λ i. if one_inner p.node i then None else source p (map.get g.feeders p) refl i)
         ∙ sym (ap (λ (c : Circuit). c.feeder p) (without_circuit h g b ty w))
 
@@ -179,3 +179,35 @@ module _ (entry b exit : Name) (shape : Shape) (before : entry ≢ b) (after : e
         let nodes = map.same_map name_total name_same h.nodes (replaced_graph g left right).nodes (λ n. sym (same_node n)) in
         let feeders = map.same_map port_total port_same h.feeders (replaced_graph g left right).feeders (λ p. sym (same_feeder p)) in
         λ i. record { nodes = nodes i; feeders = feeders i }
+
+  -- the rule matches at each Buffer that can be dropped
+  b_named : (n : Name) → has_inner left n ≡ true → n ≡ b
+  b_named n i =
+      elim (name_cases n b) [
+        | inl same ↦ same.is
+        | inr other ↦ absurd (true≢false (sym i ∙ one_inner n ∙ other.test))
+      ]
+
+  b_is : (circuit_of left).kind_at b ≡ Some (Buffer shape)
+  b_is = put_elsewhere last_two entry (bare (Entry shape)) b (λ e. before (sym e)) ∙ put_here last b (bare (Buffer shape)) b refl
+
+  no_ring : (p q : Port) → TheWires p q → q.node ≡ b → p.node ≡ b → ⊥
+  no_ring p q (inl x) from to = before (sym (ap (λ (z : Port). z.node) x.1) ∙ from)
+  no_ring p q (inr x) from to = after (sym (ap (λ (z : Port). z.node) x.0) ∙ to)
+
+  module _ (g : NamedGraph) (ty : IsTyped g) (is_buffer : (circuit_of g).kind_at b ≡ Some (Buffer shape)) (can : CanDropBuffer (circuit_of g) b) where
+    ring : (p q : Port) → map.get g.feeders p ≡ Some q → p.node ≡ b → q.node ≡ b → ⊥
+    ring p q e to from =
+        let there : p ≡ first_port b = in_is (circuit_of g) b (can_drop_of (circuit_of g) b can) (circuit_typed g ty) p q e to in
+        can.other (ap (λ (z : Port). z.node) (same_Some can.before q (sym can.is_before ∙ ap (map.get g.feeders) (sym there) ∙ e)) ∙ from)
+
+    pub rule_matches : Matches g left right
+    rule_matches =
+        record {
+          nodes = λ n i. let is = b_named n i in ap (circuit_of g).kind_at is ∙ is_buffer ∙ sym (ap (circuit_of left).kind_at is ∙ b_is);
+          wires = λ p q ip iq. (
+            (λ e. absurd (ring p q e (b_named p.node ip) (b_named q.node iq))),
+            (λ e. absurd (no_ring p q (the_wires p q e) (b_named q.node iq) (b_named p.node ip))),
+          );
+          new = λ n k e i. absurd (true≢false (sym (ap is_inner e ∙ i) ∙ no_inner n));
+        }

@@ -14,8 +14,8 @@ use Rattle.components.specs.Entries.{first, second, find-append, find_below}
 use Rattle.components.specs.Lookups.{get_retained}
 use Rattle.components.specs.Orders.{name_total, name_same, port_total, port_same}
 use Rattle.circuits.specs.Circuit.{circuit_of, kind_of_body}
-use Rattle.circuits.specs.Replacing.{outside, crossing, replaced}
-use Rattle.circuits.specs.ReplacedGraph.{has_inner, consumer, together, refed, stays, replaced_graph}
+use Rattle.circuits.specs.Replacing.{replaced}
+use Rattle.circuits.specs.ReplacedGraph.{has_inner, consumer, together, refed, new_source, kept_source, stays, replaced_graph}
 use Rattle.circuits.proofs.Renaming.{circuit_same}
 
 -- in the entries of two maps the first of them goes before
@@ -68,11 +68,11 @@ module _ (g left right : NamedGraph) where
       ∙ joined (has_inner right n) (has_inner left n) (map.get right.nodes n) (map.get g.nodes n)
 
   -- what feeds an input
-  abbrev new_source : Option Port → Option Port
-  new_source = outside (circuit_of g) (circuit_of right) (consumer left)
+  abbrev from_new : Option Port → Option Port
+  from_new = new_source g left right
 
-  abbrev old_source : Option Port → Option Port
-  old_source = crossing (circuit_of g) (circuit_of left) (circuit_of right) (consumer left)
+  abbrev from_old : Option Port → Option Port
+  from_old = kept_source g left right
 
   abbrev into_new : FinMap port_cmp Port
   into_new = map.retain_keys right.feeders (λ r. has_inner right r.node)
@@ -80,33 +80,33 @@ module _ (g left right : NamedGraph) where
   abbrev into_old : FinMap port_cmp Port
   into_old = map.retain_keys g.feeders (λ r. stays left right r.node)
 
-  chosen_new : (b : Bool) (o : Option Port) → option_and_then (λ q. new_source (Some q)) (cond b o None) ≡ cond b (new_source o) None
+  chosen_new : (b : Bool) (o : Option Port) → option_and_then (λ q. from_new (Some q)) (cond b o None) ≡ cond b (from_new o) None
   chosen_new true None = refl
   chosen_new true (Some q) = refl
   chosen_new false o = refl
 
-  chosen_old : (b : Bool) (o : Option Port) → option_and_then (λ q. old_source (Some q)) (cond b o None) ≡ cond b (old_source o) None
+  chosen_old : (b : Bool) (o : Option Port) → option_and_then (λ q. from_old (Some q)) (cond b o None) ≡ cond b (from_old o) None
   chosen_old true None = refl
   chosen_old true (Some q) = refl
   chosen_old false o = refl
 
-  new_wires : (p : Port) → map.get (refed new_source into_new) p ≡ cond (has_inner right p.node) (new_source (map.get right.feeders p)) None
+  new_wires : (p : Port) → map.get (refed from_new into_new) p ≡ cond (has_inner right p.node) (from_new (map.get right.feeders p)) None
   new_wires p =
-      get-refed new_source into_new p
-      ∙ ap (option_and_then (λ q. new_source (Some q))) (get_retained port_total port_same right.feeders (λ r. has_inner right r.node) p)
+      get-refed from_new into_new p
+      ∙ ap (option_and_then (λ q. from_new (Some q))) (get_retained port_total port_same right.feeders (λ r. has_inner right r.node) p)
       ∙ chosen_new (has_inner right p.node) (map.get right.feeders p)
 
-  old_wires : (p : Port) → map.get (refed old_source into_old) p ≡ cond (stays left right p.node) (old_source (map.get g.feeders p)) None
+  old_wires : (p : Port) → map.get (refed from_old into_old) p ≡ cond (stays left right p.node) (from_old (map.get g.feeders p)) None
   old_wires p =
-      get-refed old_source into_old p
-      ∙ ap (option_and_then (λ q. old_source (Some q))) (get_retained port_total port_same g.feeders (λ r. stays left right r.node) p)
+      get-refed from_old into_old p
+      ∙ ap (option_and_then (λ q. from_old (Some q))) (get_retained port_total port_same g.feeders (λ r. stays left right r.node) p)
       ∙ chosen_old (stays left right p.node) (map.get g.feeders p)
 
   pub feeder_at : (p : Port) → map.get (replaced_graph g left right).feeders p ≡ (replaced (circuit_of g) (circuit_of left) (circuit_of right) (consumer left)).feeder p
   feeder_at p =
-      get-together port_total (refed new_source into_new) (refed old_source into_old) p
+      get-together port_total (refed from_new into_new) (refed from_old into_old) p
       ∙ (λ i. option_or (new_wires p i) (old_wires p i))
-      ∙ joined (has_inner right p.node) (has_inner left p.node) (new_source (map.get right.feeders p)) (old_source (map.get g.feeders p))
+      ∙ joined (has_inner right p.node) (has_inner left p.node) (from_new (map.get right.feeders p)) (from_old (map.get g.feeders p))
 
   chosen_kind : (new old : Bool) (x y : Option Body) → kind_of_body (chosen new old x y) ≡ chosen new old (kind_of_body x) (kind_of_body y)
   chosen_kind true old x y = refl

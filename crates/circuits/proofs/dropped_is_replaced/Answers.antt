@@ -1,5 +1,8 @@
-use Rattle.circuits.proofs.ReplacedGraph.BufferRule.{dropped_is_replaced}
+use Rattle.circuits.proofs.ReplacedGraph.BufferRule.{dropped_is_replaced, rule_matches}
 use Rattle.circuits.proofs.dropped_is_replaced.Goals as goal
 
-pub returns : goal.returns
-returns c = λ h g entry b exit shape before after ty w. dropped_is_replaced entry b exit shape before after h g ty w
+pub returns-clause-matches : goal.returns-clause-matches
+returns-clause-matches c = λ g entry b exit shape before after ty is can. rule_matches entry b exit shape before after g ty is can
+
+pub returns-clause-graph : goal.returns-clause-graph
+returns-clause-graph c = λ h g entry b exit shape before after ty w. dropped_is_replaced entry b exit shape before after h g ty w
