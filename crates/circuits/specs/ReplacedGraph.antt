@@ -33,7 +33,7 @@ refed source wires = finite.from_entries (filter_map (λ wire. option_map (λ q.
 abbrev pub new_source : NamedGraph → NamedGraph → NamedGraph → Option Port → Option Port
 new_source g left right = outside (circuit_of g) (circuit_of right) (consumer left)
 
--- what feeds an input of a node that stays: what fed it; where that was a node of left, the new source of the Exit that this node feeds in left
+-- what feeds an input of a node that stays: what fed it; where that was an inner node of left, the new source of the Exit that this output feeds in left
 abbrev pub kept_source : NamedGraph → NamedGraph → NamedGraph → Option Port → Option Port
 kept_source g left right = crossing (circuit_of g) (circuit_of left) (circuit_of right) (consumer left)
 
