@@ -22,4 +22,5 @@ mod Replacing
 mod ReplacedGraph
 mod Alone
 mod GraphCircuits
+mod PluggedGraphs
 mod TaggerOrder

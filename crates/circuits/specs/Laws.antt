@@ -13,6 +13,7 @@ use Rattle.circuits.specs.Firing.{Label, Label.Fire}
 use Rattle.circuits.specs.Run.{Step, Move, Run, Shows}
 use Rattle.circuits.specs.TaggerOrder.{tags_of, tags_given, results_given}
 use Rattle.circuits.specs.Plug.{PlugLink, plug, Apart, CanPlug}
+use Rattle.circuits.specs.PluggedGraph.{plugged_graph}
 use Rattle.circuits.specs.Refines.{Refines}
 use Rattle.circuits.specs.Buffers.{first_port, drop_node, drop_all, CanDropBuffer, CanDropEach, IsWithoutBuffer}
 use Rattle.circuits.specs.Replacing.{replaced, IsPart, IsNew, Ends}
@@ -60,6 +61,16 @@ RefinesAlone = (new old : Circuit) → Refines new old → (tr : List Move) → 
 abbrev pub PlugIsTyped : Type 0
 PlugIsTyped = (c : Circuit) (ls : List PlugLink) (g : Circuit) → Typed c → Typed g → CanPlug c ls g →
     Typed (plug c ls g)
+
+-- the circuit of a plugged graph is the plugged circuit: at each name and port both answer the same
+abbrev pub PluggedGraphIsCircuit : Type 0
+PluggedGraphIsCircuit = (c : NamedGraph) (ls : List PlugLink) (g : NamedGraph) →
+    circuit_of (plugged_graph c ls g) ≡ plug (circuit_of c) ls (circuit_of g)
+
+-- so a plugged graph is typed
+abbrev pub PluggedGraphIsTyped : Type 0
+PluggedGraphIsTyped = (c : NamedGraph) (ls : List PlugLink) (g : NamedGraph) → IsTyped c → IsTyped g →
+    CanPlug (circuit_of c) ls (circuit_of g) → IsTyped (plugged_graph c ls g)
 
 -- a circuit refined in a part is refined, where the names of the new part are apart from those of the rest
 abbrev pub WholeRefines : Type 0

@@ -8,6 +8,8 @@ pub mod Refines
 pub mod Buffers
 pub mod Replacing
 pub mod ReplacedGraph
+pub mod PluggedGraph
+pub mod GraphLookups
 pub mod BufferRule
 pub mod Renaming
 pub mod TaggerOrder

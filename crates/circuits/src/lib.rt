@@ -4,6 +4,7 @@
 //! The definitions, in `specs/`:
 //!
 //! - `Circuit`: circuits, the circuit of a graph, and typed ones. `Plug`: a circuit in a surrounding one, by links.
+//!   `PluggedGraph`: the same for graphs by names, with the attributes that they keep.
 //! - `CircuitState`, `PortTokens`, `Firing`, `Run`: states and the start, the table of components by what a node does, steps,
 //!   runs, and the trace that is seen of a run.
 //! - `Refines`: in no surrounding circuit does the one show anything that the other does not.
@@ -29,7 +30,7 @@
 //! The crate `circuit_examples` tries the definitions out on small graphs.
 #![tactic(auto)]
 
-ghost use Rattle.circuits.specs.Laws.{StartIsState, StepKeepsState, RunReachesState, FiringIsOne, TaggerKeepsOrder, RefinesItself, RefinesInSteps, RefinesAlone, PlugIsTyped, WholeRefines, ReplacementRefines, ConsumerIsFed, ReplacedNodes, ReplacedGraphIsCircuit, ReplacedGraphIsTyped, ReplacedGraphHasNames, GraphReplacementRefines, BufferRuleMatches, DropIsReplacement, RenamedRefines, RefinesRenamed, RenamingKeepsRefines, DropRefines, PutRefines, DropAllRefines, PutAllRefines, CircuitIsTyped, GraphIsTyped, GraphDropRefines, GraphPutRefines, RootIsOne, RingHasNoRoot, RestIsOne, GraphRests, RestsWithoutInit, DropDrains, PutDrains, GraphDropDrains, GraphPutDrains};
+ghost use Rattle.circuits.specs.Laws.{StartIsState, StepKeepsState, RunReachesState, FiringIsOne, TaggerKeepsOrder, RefinesItself, RefinesInSteps, RefinesAlone, PlugIsTyped, PluggedGraphIsCircuit, PluggedGraphIsTyped, WholeRefines, ReplacementRefines, ConsumerIsFed, ReplacedNodes, ReplacedGraphIsCircuit, ReplacedGraphIsTyped, ReplacedGraphHasNames, GraphReplacementRefines, BufferRuleMatches, DropIsReplacement, RenamedRefines, RefinesRenamed, RenamingKeepsRefines, DropRefines, PutRefines, DropAllRefines, PutAllRefines, CircuitIsTyped, GraphIsTyped, GraphDropRefines, GraphPutRefines, RootIsOne, RingHasNoRoot, RestIsOne, GraphRests, RestsWithoutInit, DropDrains, PutDrains, GraphDropDrains, GraphPutDrains};
 
 use fun_expr::fun_value_fits;
 use op_table::value_fits;
@@ -74,6 +75,12 @@ pub fn refines_alone()
 /// Two typed circuits that are plugged together make a typed one.
 pub fn plugged_is_typed()
     ensures { PlugIsTyped }
+{}
+
+/// Two typed graphs that are plugged together make a typed one, whose circuit is that of the two, plugged together.
+pub fn plugged_graph_as_circuit()
+    ensures circuit { PluggedGraphIsCircuit }
+    ensures typed { PluggedGraphIsTyped }
 {}
 
 /// A circuit with a part that refines another refines the circuit with the other, where names are apart.

@@ -1,28 +1,23 @@
 -- What stands in a replaced graph under each name and at each input.
-use Rattle.std.proofs.Common.{◌≡◌, Bool, true, false, not, ◌||◌, cond, refl, sym, ap, ◌∙◌, T, if◌then◌else◌, List, [], ◌∷◌, ◌++◌, Option, Some, None, Ordering}
+use Rattle.std.proofs.Common.{◌≡◌, Bool, true, false, not, ◌||◌, cond, refl, sym, ap, ◌∙◌, T, if◌then◌else◌, List, [], ◌∷◌, Option, Some, None, Ordering}
 use Rattle.std.specs.List.{filter_map, cons_option}
 use Rattle.std.specs.Option.{option_map, option_or, option_and_then}
 use Rattle.std.specs.Ordering.{eq_by_cmp}
-use Rattle.std.specs.Cmp.{IsTotalOrder, Equal-is}
+use Rattle.std.specs.Cmp.{Equal-is}
 use Rattle.std.specs.FinMap as map
 use Rattle.std.specs.FinMap.{FinMap, IsAntisymmetric}
 use Rattle.std.specs.FinMap.Entries.{find, is_sorted}
 use Rattle.components.specs.Name.{Name, Port, port_cmp}
 use Rattle.components.specs.NamedGraph.{NamedGraph}
 use Rattle.components.specs.Node.{Body}
-use Rattle.components.specs.Entries.{first, second, find-append, find_below}
+use Rattle.components.specs.Entries.{first, second, find_below}
 use Rattle.components.specs.Lookups.{get_retained}
 use Rattle.components.specs.Orders.{name_total, name_same, port_total, port_same}
 use Rattle.circuits.specs.Circuit.{circuit_of, kind_of_body}
 use Rattle.circuits.specs.Replacing.{replaced}
-use Rattle.circuits.specs.ReplacedGraph.{has_inner, consumer, together, refed, new_source, kept_source, stays, replaced_graph}
+use Rattle.circuits.specs.ReplacedGraph.{has_inner, consumer, refed, new_source, kept_source, stays, replaced_graph}
+use Rattle.circuits.specs.GraphLookups.{get-together}
 use Rattle.circuits.proofs.Renaming.{circuit_same}
-
--- in the entries of two maps the first of them goes before
-pub get-together : {K X : Type 0} {R : K → K → Ordering} → IsTotalOrder R → (m n : FinMap R X) (q : K) → map.get (together m n) q ≡ option_or (map.get m q) (map.get n q)
-get-together {R = R} o m n q =
-    map.get-from_entries o (map.entries m ++ map.entries n) q ∙ find-append R q (map.entries m) (map.entries n)
-    ∙ (λ i. option_or (sym (map.get-entries m q) i) (sym (map.get-entries n q) i))
 
 -- entries with other values, where there are some
 module _ {K X Y : Type 0} {R : K → K → Ordering} (same : IsAntisymmetric R) (f : X → Option Y) where
