@@ -1,0 +1,4 @@
+pub mod Prefix
+pub mod PrefixNumber
+pub mod Rule
+pub mod Word

@@ -1,0 +1,16 @@
+//! Local rewriting: one part of a graph in the place of another.
+//!
+//! - `fresh_prefix`: the least number `k` such that no node has a name that begins with `ooo_k_`, as the front of the names of new nodes.
+//! - `Rule`: what a rule of local rewriting is: its word, the graph that it looks for, the graph that comes in its place, and what it owes.
+//!   Contracts see a rule by names (`specs/Rule.antt`). `RuleWord` has the words.
+//!
+//! Where nodes are named `ooo_0_in`, `ooo_1_in` and `ooo_3_in`, the least number is 2.
+#![tactic(auto)]
+
+mod prefix;
+mod rule;
+mod word;
+
+pub use prefix::fresh_prefix;
+pub use rule::Rule;
+pub use word::RuleWord;
