@@ -1,3 +1,4 @@
+pub mod Matching
 pub mod Prefix
 pub mod PrefixNumber
 pub mod Rule

@@ -3,14 +3,19 @@
 //! - `fresh_prefix`: the least number `k` such that no node has a name that begins with `ooo_k_`, as the front of the names of new nodes.
 //! - `Rule`: what a rule of local rewriting is: its word, the graph that it looks for, the graph that comes in its place, and what it owes.
 //!   Contracts see a rule by names (`specs/Rule.antt`). `RuleWord` has the words.
+//! - `matches`: whether a rule can be applied to a graph: the inner nodes of its left graph stand there, with the same names, kinds and
+//!   wires between them, and those of its right graph find no node of their names.
 //!
 //! Where nodes are named `ooo_0_in`, `ooo_1_in` and `ooo_3_in`, the least number is 2.
 #![tactic(auto)]
 
+mod matching;
+mod named;
 mod prefix;
 mod rule;
 mod word;
 
+pub use matching::matches;
 pub use prefix::fresh_prefix;
 pub use rule::Rule;
 pub use word::RuleWord;
