@@ -275,6 +275,7 @@ module _ (shape : Shape) where
       }
 
   pub left_out_gives : GraphIsTyped → DropIsReplacement → IsShape shape → replaced_graph (row shape) (old_part shape) (new_part shape) ≡ short_row shape
+  unfolding without_b
   left_out_gives typed law ok =
       sym (law (short_row shape) (row shape) entry_name buffer_name exit_name shape old_found.before old_found.after
       (row_typed first_name buffer_name last_name shape row_found typed ok) (without_b first_name buffer_name last_name shape row_found))

@@ -18,7 +18,7 @@ use Rattle.circuits.specs.Refines.{Refines}
 use Rattle.circuits.specs.Buffers.{first_port, drop_node, drop_all, CanDropBuffer, CanDropEach, IsWithoutBuffer}
 use Rattle.circuits.specs.Replacing.{replaced, IsPart, IsNew, Ends}
 use Rattle.circuits.specs.ReplacedGraph.{consumer, has_inner, replaced_graph, Matches, IsRule}
-use Rattle.circuits.specs.BufferRule.{straight, buffered}
+use Rattle.circuits.specs.BufferRule.{straight, passing}
 use Rattle.circuits.specs.Renaming.{Swap, renamed, KeepsEnds}
 use Rattle.circuits.specs.Root.{Root}
 use Rattle.circuits.specs.Drains.{IsInit, IsRest, Drains}
@@ -110,16 +110,15 @@ abbrev pub GraphReplacementRefines : Type 0
 GraphReplacementRefines = (g left right : NamedGraph) → IsTyped g → IsRule left right → Matches g left right →
     Refines (circuit_of right) (circuit_of left) → Refines (circuit_of (replaced_graph g left right)) (circuit_of g)
 
--- the rule that puts an Entry wired to an Exit in the place of an Entry, a Buffer and an Exit in a row matches at each Buffer that can be left out
+-- the rule that puts an Entry wired to an Exit in the place of an Entry, a Buffer and an Exit in a row matches at each Buffer that can be left out; a Fork of one output is as a Buffer
 abbrev pub BufferRuleMatches : Type 0
-BufferRuleMatches = (g : NamedGraph) (entry b exit : Name) (shape : Shape) → entry ≢ b → exit ≢ b → IsTyped g →
-    (circuit_of g).kind_at b ≡ Some (Buffer shape) → CanDropBuffer (circuit_of g) b →
-    Matches g (buffered entry b exit shape) (straight entry exit shape)
+BufferRuleMatches = (g : NamedGraph) (entry b exit : Name) (shape : Shape) → entry ≢ b → exit ≢ b → IsTyped g → (can : CanDropBuffer (circuit_of g) b) →
+    Matches g (passing entry b exit can.kind shape) (straight entry exit shape)
 
 -- and what comes of it is the graph without the Buffer
 abbrev pub DropIsReplacement : Type 0
-DropIsReplacement = (h g : NamedGraph) (entry b exit : Name) (shape : Shape) → entry ≢ b → exit ≢ b → IsTyped g → IsWithoutBuffer h g b →
-    h ≡ replaced_graph g (buffered entry b exit shape) (straight entry exit shape)
+DropIsReplacement = (h g : NamedGraph) (entry b exit : Name) (shape : Shape) → entry ≢ b → exit ≢ b → IsTyped g → (without : IsWithoutBuffer h g b) →
+    h ≡ replaced_graph g (passing entry b exit without.can.kind shape) (straight entry exit shape)
 
 -- a circuit shows nothing new where its inner nodes have other names
 abbrev pub RenamedRefines : Type 0

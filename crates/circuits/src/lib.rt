@@ -115,7 +115,8 @@ pub fn graph_replacement_refines()
     fun_value_fits();
 }
 
-/// To drop a Buffer is to replace a part: an Entry, the Buffer and an Exit in a row become the Entry wired to the Exit.
+/// To drop a Buffer, or a Fork of one output, is to replace a part: an Entry, this node and an Exit in a row become the Entry
+/// wired to the Exit.
 pub fn dropped_is_replaced()
     ensures matches { BufferRuleMatches }
     ensures graph { DropIsReplacement }

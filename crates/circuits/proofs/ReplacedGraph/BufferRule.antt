@@ -1,9 +1,9 @@
--- A Buffer that is dropped is replaced by the rule that leaves a Buffer out, and the rule matches there.
+-- A Buffer that is dropped, or a Fork of one output, is replaced by the rule that leaves it out, and the rule matches there.
 use Rattle.std.proofs.Common.{◌≡◌, ◌≢◌, ◌⊎◌, inl, inr, refl, sym, ap, ◌∙◌, true, false, bytes_eq, if◌then◌else◌, Option, Some, None, true≢false}
 use Rattle.std.specs.FinMap as map
 use Rattle.std.proofs.lemmas.Option.{none-some, same_Some}
 use Rattle.components.specs.declared.kind.Kind.{Kind}
-use Rattle.components.specs.declared.kind.Kind.TheVariants.{Entry, Exit, Buffer}
+use Rattle.components.specs.declared.kind.Kind.TheVariants.{Entry, Exit, Buffer, Fork}
 use Rattle.components.specs.Name.{Name, Port, name_cmp, port_cmp}
 use Rattle.components.specs.Kind.{Shape}
 use Rattle.components.specs.Node.{Body}
@@ -11,10 +11,10 @@ use Rattle.components.specs.NamedGraph.{NamedGraph, IsTyped}
 use Rattle.components.specs.Lookups.{get_inserted, get_not_inserted, get_removed, get_not_removed}
 use Rattle.components.specs.Orders.{name_total, name_same, port_total, port_same, port_cases, other_bytes}
 use Rattle.circuits.specs.Circuit.{Circuit, circuit_of, kind_of_body}
-use Rattle.circuits.specs.Buffers.{first_port, bypass, CanDropBuffer, IsWithoutBuffer}
+use Rattle.circuits.specs.Buffers.{first_port, bypass, IsBufferLike, CanDropBuffer, IsWithoutBuffer}
 use Rattle.circuits.specs.Replacing.{is_inner, is_entry, follow}
 use Rattle.circuits.specs.ReplacedGraph.{has_inner, consumer, new_source, kept_source, replaced_graph, Matches}
-use Rattle.circuits.specs.BufferRule.{bare, straight, buffered}
+use Rattle.circuits.specs.BufferRule.{bare, straight, passing}
 use Rattle.circuits.proofs.Names.{name_cases}
 use Rattle.circuits.proofs.GraphCircuits.{circuit_typed}
 use Rattle.circuits.proofs.Buffers.Circuits.{out_is, in_is, can_drop_of}
@@ -32,20 +32,25 @@ put_here m k body n is = ap kind_of_body (get_inserted name_total name_same m k 
 put_elsewhere : (m : map.FinMap name_cmp Body) (k : Name) (body : Body) (n : Name) → n ≢ k → kind_in (map.insert m k body) n ≡ kind_in m n
 put_elsewhere m k body n other = ap kind_of_body (get_not_inserted name_total name_same m k body n other)
 
-module _ (entry b exit : Name) (shape : Shape) (before : entry ≢ b) (after : exit ≢ b) where
+is_inner_kind : (k : Kind) → IsBufferLike k → is_inner (Some k) ≡ true
+is_inner_kind (Buffer a) h = refl
+is_inner_kind (Fork a count) h = refl
+is_inner_kind _ h = absurd h
+
+module _ (entry b exit : Name) (kind : Kind) (shape : Shape) (passes : IsBufferLike kind) (before : entry ≢ b) (after : exit ≢ b) where
   abbrev left : NamedGraph
-  left = buffered entry b exit shape
+  left = passing entry b exit kind shape
 
   abbrev right : NamedGraph
   right = straight entry exit shape
 
-  -- the Buffer is the one inner node
+  -- the node b is the one inner node
 
   abbrev last : map.FinMap name_cmp Body
   last = map.insert map.empty exit (bare (Exit shape))
 
   abbrev last_two : map.FinMap name_cmp Body
-  last_two = map.insert last b (bare (Buffer shape))
+  last_two = map.insert last b (bare kind)
 
   exit_no_inner : (n : Name) → is_inner (kind_in last n) ≡ false
   exit_no_inner n =
@@ -64,8 +69,8 @@ module _ (entry b exit : Name) (shape : Shape) (before : entry ≢ b) (after : e
   b_inner : (n : Name) → is_inner (kind_in last_two n) ≡ bytes_eq n b
   b_inner n =
       elim (name_cases n b) [
-        | inl same ↦ ap is_inner (put_here last b (bare (Buffer shape)) n same.is) ∙ sym same.test
-        | inr other ↦ ap is_inner (put_elsewhere last b (bare (Buffer shape)) n other.is_not) ∙ exit_no_inner n ∙ sym other.test
+        | inl same ↦ ap is_inner (put_here last b (bare kind) n same.is) ∙ is_inner_kind kind passes ∙ sym same.test
+        | inr other ↦ ap is_inner (put_elsewhere last b (bare kind) n other.is_not) ∙ exit_no_inner n ∙ sym other.test
       ]
 
   one_inner : (n : Name) → has_inner left n ≡ bytes_eq n b
@@ -180,7 +185,7 @@ module _ (entry b exit : Name) (shape : Shape) (before : entry ≢ b) (after : e
         let feeders = map.same_map port_total port_same h.feeders (replaced_graph g left right).feeders (λ p. sym (same_feeder p)) in
         λ i. record { nodes = nodes i; feeders = feeders i }
 
-  -- the rule matches at each Buffer that can be dropped
+  -- the rule matches where b can be dropped
   b_named : (n : Name) → has_inner left n ≡ true → n ≡ b
   b_named n i =
       elim (name_cases n b) [
@@ -188,14 +193,14 @@ module _ (entry b exit : Name) (shape : Shape) (before : entry ≢ b) (after : e
         | inr other ↦ absurd (true≢false (sym i ∙ one_inner n ∙ other.test))
       ]
 
-  b_is : (circuit_of left).kind_at b ≡ Some (Buffer shape)
-  b_is = put_elsewhere last_two entry (bare (Entry shape)) b (λ e. before (sym e)) ∙ put_here last b (bare (Buffer shape)) b refl
+  b_is : (circuit_of left).kind_at b ≡ Some kind
+  b_is = put_elsewhere last_two entry (bare (Entry shape)) b (λ e. before (sym e)) ∙ put_here last b (bare kind) b refl
 
   no_ring : (p q : Port) → TheWires p q → q.node ≡ b → p.node ≡ b → ⊥
   no_ring p q (inl x) from to = before (sym (ap (λ (z : Port). z.node) x.1) ∙ from)
   no_ring p q (inr x) from to = after (sym (ap (λ (z : Port). z.node) x.0) ∙ to)
 
-  module _ (g : NamedGraph) (ty : IsTyped g) (is_buffer : (circuit_of g).kind_at b ≡ Some (Buffer shape)) (can : CanDropBuffer (circuit_of g) b) where
+  module _ (g : NamedGraph) (ty : IsTyped g) (is_kind : (circuit_of g).kind_at b ≡ Some kind) (can : CanDropBuffer (circuit_of g) b) where
     ring : (p q : Port) → map.get g.feeders p ≡ Some q → p.node ≡ b → q.node ≡ b → ⊥
     ring p q e to from =
         let there : p ≡ first_port b = in_is (circuit_of g) b (can_drop_of (circuit_of g) b can) (circuit_typed g ty) p q e to in
@@ -204,7 +209,7 @@ module _ (entry b exit : Name) (shape : Shape) (before : entry ≢ b) (after : e
     pub rule_matches : Matches g left right
     rule_matches =
         record {
-          nodes = λ n i. let is = b_named n i in ap (circuit_of g).kind_at is ∙ is_buffer ∙ sym (ap (circuit_of left).kind_at is ∙ b_is);
+          nodes = λ n i. let is = b_named n i in ap (circuit_of g).kind_at is ∙ is_kind ∙ sym (ap (circuit_of left).kind_at is ∙ b_is);
           wires = λ p q ip iq. (
             (λ e. absurd (ring p q e (b_named p.node ip) (b_named q.node iq))),
             (λ e. absurd (no_ring p q (the_wires p q e) (b_named q.node iq) (b_named p.node ip))),
