@@ -9,6 +9,7 @@ use fun_expr::{Expr, Fun};
 use op_table::Op;
 use port_types::{Items, Shape, Side, Text};
 use std::alloc::Global;
+use std::process::Abort;
 use std::test::Fail;
 
 fn text_of(alloc: Global, text: &str) -> Result<Text, Fail> {
@@ -102,57 +103,66 @@ fn has_word(kind: &Kind, word: &str) -> bool {
         && component_of(word.as_bytes()) == Some(component)
 }
 
+/// A component's word, the widths of its inputs and outputs, and the keys that its row owns.
+const ROWS: [(&str, &str); 17] = [
+    ("Entry", " > [8, 4]"),
+    ("Exit", "[8, 4] > "),
+    ("Buffer", "[8, 4] > [8, 4]"),
+    ("Fork", "[8, 4] > [8, 4][8, 4]"),
+    ("Join", "[1][1, 1] > [1, 1, 1]"),
+    ("Split", "[1, 1, 1] > [1][1, 1]"),
+    ("Operator", "[1][8][8] > [8] op"),
+    ("Constant", "[8, 4] > [5] value"),
+    ("Source", " > [8, 4]"),
+    ("Sink", "[8, 4] > "),
+    ("Pure", "[8, 4] > [4, 1] fun"),
+    ("Mux", "[1][8, 4][8, 4] > [8, 4]"),
+    ("Branch", "[8, 4][1] > [8, 4][8, 4]"),
+    ("Merge", "[8, 4][8, 4] > [8, 4]"),
+    ("CntrlMerge", "[8, 4][8, 4] > [8, 4][1]"),
+    ("Init", "[1] > [1] value ooo"),
+    ("Tagger", "[8, 4][3, 8, 4] > [3, 8, 4][8, 4] tags"),
+];
+
+fn assert_row(rt: &impl Abort, alloc: Global, word: &str, row: &str) -> Result<(), Fail> {
+    let kind = kind_of(alloc, word)?;
+    let copy = kind.clone()?;
+    assert_eq!(rt; row_of(alloc, &copy)?.as_str(), row);
+    assert!(rt; same_kind(&kind, &copy) && has_word(&kind, word));
+    Ok(())
+}
+
 #[test]
 fn rows_of_the_table(rt: HostRuntime) -> Result<(), Fail> {
-    for (word, row) in [
-        ("Entry", " > [8, 4]"),
-        ("Exit", "[8, 4] > "),
-        ("Buffer", "[8, 4] > [8, 4]"),
-        ("Fork", "[8, 4] > [8, 4][8, 4]"),
-        ("Join", "[1][1, 1] > [1, 1, 1]"),
-        ("Split", "[1, 1, 1] > [1][1, 1]"),
-        ("Operator", "[1][8][8] > [8] op"),
-        ("Constant", "[8, 4] > [5] value"),
-        ("Source", " > [8, 4]"),
-        ("Sink", "[8, 4] > "),
-        ("Pure", "[8, 4] > [4, 1] fun"),
-        ("Mux", "[1][8, 4][8, 4] > [8, 4]"),
-        ("Branch", "[8, 4][1] > [8, 4][8, 4]"),
-        ("Merge", "[8, 4][8, 4] > [8, 4]"),
-        ("CntrlMerge", "[8, 4][8, 4] > [8, 4][1]"),
-        ("Init", "[1] > [1] value ooo"),
-        ("Tagger", "[8, 4][3, 8, 4] > [3, 8, 4][8, 4] tags"),
-    ] {
-        let kind = kind_of(rt.alloc(), word)?;
-        let copy = kind.clone()?;
-        assert_eq!(rt; row_of(rt.alloc(), &copy)?.as_str(), row, "{word}");
-        assert!(rt; same_kind(&kind, &copy) && has_word(&kind, word), "{word}");
+    for (word, row) in &ROWS {
+        assert_row(&rt, rt.alloc(), word, row)?;
     }
     Ok(())
 }
 
-#[test]
-fn limits_of_fields(rt: HostRuntime) -> Result<(), Fail> {
-    for (fields, want) in [(64, true), (65, false)] {
-        let join = Kind::Join(parts_of(rt.alloc(), 64, fields)?);
-        assert_eq!(rt; kind_ok(&join), want, "{fields}");
-    }
-    for (fields, want) in [(127, true), (128, false)] {
-        let widths = vec![in rt.alloc(); 1; fields]?;
-        let tagger = Kind::Tagger(shape_of(rt.alloc(), &widths)?, 256);
-        assert_eq!(rt; kind_ok(&tagger), want, "{fields}");
-    }
-    Ok(())
+/// Whether a Join of so many fields may stand in a graph.
+fn join_is_ok(alloc: Global, first: usize, second: usize) -> Result<bool, Fail> {
+    Ok(kind_ok(&Kind::Join(parts_of(alloc, first, second)?)))
+}
+
+/// Whether a Tagger of so many fields beside the tag may stand in a graph.
+fn tagger_is_ok(alloc: Global, fields: usize) -> Result<bool, Fail> {
+    let data = shape_of(alloc, &vec![in alloc; 1; fields]?)?;
+    Ok(kind_ok(&Kind::Tagger(data, 256)))
+}
+
+/// Whether a Pure of the function may have this output.
+fn pure_is_ok(alloc: Global, widths: &[u8]) -> Result<bool, Fail> {
+    Ok(kind_ok(&Kind::Pure(fun_of(alloc)?, shape_of(alloc, widths)?)))
 }
 
 #[test]
-fn a_pure_has_the_output_of_its_function(rt: HostRuntime) -> Result<(), Fail> {
+fn limits_of_kinds(rt: HostRuntime) -> Result<(), Fail> {
     let alloc = rt.alloc();
-    for widths in [[4, 2], [1, 4]] {
-        let pure = Kind::Pure(fun_of(alloc)?, shape_of(alloc, &widths)?);
-        assert!(rt; !kind_ok(&pure));
-        assert!(rt; !same_kind(&pure, &kind_of(alloc, "Pure")?));
-    }
+    assert!(rt; join_is_ok(alloc, 64, 64)? && !join_is_ok(alloc, 64, 65)?);
+    assert!(rt; tagger_is_ok(alloc, 127)? && !tagger_is_ok(alloc, 128)?);
+    assert!(rt; pure_is_ok(alloc, &[4, 1])? && !pure_is_ok(alloc, &[1, 4])?);
+    assert!(rt; !same_kind(&Kind::Init(1, 0), &Kind::Init(1, 1)));
     Ok(())
 }
 
@@ -164,17 +174,21 @@ fn pairs_of(alloc: Global, pairs: &[(&str, &str)]) -> Result<Items<(Text, Text)>
     Ok(Items::new(texts))
 }
 
-#[test]
-fn the_last_pair_of_a_key_is_kept(rt: HostRuntime) -> Result<(), Fail> {
-    let alloc = rt.alloc();
-    let kind = kind_of(alloc, "Init")?;
-    let pairs = [("b", "1"), ("a", "2"), ("ooo", "x"), ("b", "3"), ("B", "4")];
-    let kept = pairs_of(alloc, pairs.as_slice())?;
+/// What a kind keeps of the pairs, by key.
+fn kept_text(alloc: Global, kind: &Kind, pairs: &[(Text, Text)]) -> Result<String, Fail> {
     let mut text = String::new(alloc);
-    for pair in &kept_by_key(alloc, &kind, kept.as_slice())? {
+    for pair in &kept_by_key(alloc, kind, pairs)? {
         write!(text, " {}={}", pair.0.as_str(), pair.1.as_str())?;
     }
-    assert_eq!(rt; text.as_str(), " B=4 a=2 b=3");
+    Ok(text)
+}
+
+#[test]
+fn the_last_pair_of_a_key_is_kept(rt: HostRuntime) -> Result<(), Fail> {
+    let pairs = [("b", "1"), ("a", "2"), ("ooo", "x"), ("b", "3"), ("B", "4")];
+    let given = pairs_of(rt.alloc(), pairs.as_slice())?;
+    let kept = kept_text(rt.alloc(), &Kind::Init(1, 0), given.as_slice())?;
+    assert_eq!(rt; kept.as_str(), " B=4 a=2 b=3");
     Ok(())
 }
 
