@@ -33,23 +33,44 @@ fn add(g: &mut Graph, alloc: Global, name: &str, kind: Kind) -> Result<NodeId, F
     Ok(g.add_node(node).ok().ok_or("not added")?)
 }
 
+fn id_of(g: &Graph, name: &str) -> Result<NodeId, Fail> {
+    Ok(g.find(name.as_bytes()).ok_or("no node")?)
+}
+
 fn first(node: NodeId) -> PortAt {
     PortAt { node, port: 1 }
 }
 
+fn wire(g: &mut Graph, source: NodeId, target: NodeId) -> Result<(), Fail> {
+    Ok(
+        g.add_wire(first(source), first(target))
+            .ok()
+            .ok_or("no wire")?,
+    )
+}
+
 /// Entry, Buffer and Exit in a row, whose names stand in another order.
+fn add_row(g: &mut Graph, alloc: Global) -> Result<(), Fail> {
+    let entry = add(g, alloc, "a2", Kind::Entry(byte(alloc)?))?;
+    let buffer = add(g, alloc, "b", Kind::Buffer(byte(alloc)?))?;
+    let exit = add(g, alloc, "a10", Kind::Exit(byte(alloc)?))?;
+    wire(g, entry, buffer)?;
+    wire(g, buffer, exit)
+}
+
 fn row(alloc: Global) -> Result<Graph, Fail> {
     let mut g = Graph::new(alloc);
-    let entry = add(&mut g, alloc, "a2", Kind::Entry(byte(alloc)?))?;
-    let buffer = add(&mut g, alloc, "b", Kind::Buffer(byte(alloc)?))?;
-    let exit = add(&mut g, alloc, "a10", Kind::Exit(byte(alloc)?))?;
-    g.add_wire(first(entry), first(buffer))
-        .ok()
-        .ok_or("no wire")?;
-    g.add_wire(first(buffer), first(exit))
-        .ok()
-        .ok_or("no wire")?;
+    add_row(&mut g, alloc)?;
     Ok(g)
+}
+
+/// The indices of the nodes in the order of their names.
+fn indices(g: &Graph, alloc: Global) -> Result<Vec<usize>, Fail> {
+    let mut indices = Vec::new(alloc);
+    for id in &g.by_name(alloc)? {
+        indices.push(id.index())?;
+    }
+    Ok(indices)
 }
 
 #[test]
@@ -57,29 +78,18 @@ fn a_copy_is_the_same_graph(rt: HostRuntime) -> Result<(), Fail> {
     let mut g = row(rt.alloc())?;
     let copy = g.copy(rt.alloc())?;
     assert!(rt; same_graph(&g, &copy) && check_typed(&copy).is_ok());
-    let ids = g.by_name(rt.alloc())?;
-    let first = *ids.first().ok_or("no id")?;
-    let exit = g.remove_node(first).ok_or("no node")?;
-    assert_eq!(rt; exit.name.as_str(), "a10");
+    let _ = g.remove_node(id_of(&g, "b")?);
     assert!(rt; !same_graph(&g, &copy) && check_typed(&g).is_err());
     Ok(())
 }
 
 #[test]
 fn a_free_slot_is_taken_first(rt: HostRuntime) -> Result<(), Fail> {
-    let alloc = rt.alloc();
-    let mut g = row(alloc)?;
-    let buffer = g.find(b"b".as_slice()).ok_or("no node")?;
-    let _ = g.remove_node(buffer);
-    let fork = add(&mut g, alloc, "c", Kind::Fork(byte(alloc)?, 2))?;
-    assert_eq!(rt; fork.index(), 1);
-    assert_eq!(rt; g.slots(), 3);
-    let mut indices = Vec::new(alloc);
-    for id in &g.by_name(alloc)? {
-        indices.push(id.index())?;
-    }
-    assert_eq!(rt; indices.as_slice(), [2, 0, 1].as_slice());
-    assert!(rt; g.wire_into(first(fork)).is_none());
+    let mut g = row(rt.alloc())?;
+    let _ = g.remove_node(id_of(&g, "b")?);
+    let fork = add(&mut g, rt.alloc(), "c", Kind::Fork(byte(rt.alloc())?, 2))?;
+    assert!(rt; g.wire_into(first(fork)).is_none() && g.slots() == 3);
+    assert_eq!(rt; indices(&g, rt.alloc())?.as_slice(), [2, 0, 1].as_slice());
     Ok(())
 }
 
@@ -110,21 +120,16 @@ fn exchange_nothing(g: &mut Graph, alloc: Global) -> Result<(), Fail> {
 
 #[test]
 fn one_node_for_two(rt: HostRuntime) -> Result<(), Fail> {
-    let alloc = rt.alloc();
-    let mut g = row(alloc)?;
-    let ids = g.by_name(alloc)?;
-    let exit = *ids.first().ok_or("no id")?;
-    let buffer = g.find(b"b".as_slice()).ok_or("no node")?;
-    let entry = g.find(b"a2".as_slice()).ok_or("no node")?;
-    loop_for(&mut g, alloc, entry, buffer, "c")?;
-    exchange_nothing(&mut g, alloc)?;
-    let single = g.find(b"c".as_slice()).ok_or("no node")?;
+    let mut g = row(rt.alloc())?;
+    let (entry, buffer, exit) = (id_of(&g, "a2")?, id_of(&g, "b")?, id_of(&g, "a10")?);
+    loop_for(&mut g, rt.alloc(), entry, buffer, "c")?;
+    exchange_nothing(&mut g, rt.alloc())?;
+    let single = id_of(&g, "c")?;
     assert_eq!(rt; g.wire_from(first(single)), Some(first(single)));
-    assert!(rt; g.wire_into(first(exit)).is_none());
-    loop_for(&mut g, alloc, exit, single, "d")?;
-    assert_eq!(rt; g.slots(), 3);
-    assert_eq!(rt; g.by_name(alloc)?.len(), 1);
-    assert!(rt; check_typed(&g).is_ok());
+    assert!(rt; g.wire_into(first(exit)).is_none() && g.slots() == 3);
+    loop_for(&mut g, rt.alloc(), exit, single, "d")?;
+    assert_eq!(rt; indices(&g, rt.alloc())?.len(), 1);
+    assert!(rt; check_typed(&g).is_ok() && g.slots() == 3);
     Ok(())
 }
 
@@ -160,19 +165,22 @@ fn cross(g: &mut Graph, alloc: Global, one: Node, other: Node) -> Result<(), Fai
     Ok(())
 }
 
+/// Two Buffers, each of which feeds itself.
+fn add_loops(g: &mut Graph, alloc: Global) -> Result<(), Fail> {
+    for name in ["a", "b"] {
+        let id = add(g, alloc, name, Kind::Buffer(byte(alloc)?))?;
+        wire(g, id, id)?;
+    }
+    Ok(())
+}
+
 #[test]
 fn two_wires_exchange_their_ends(rt: HostRuntime) -> Result<(), Fail> {
-    let alloc = rt.alloc();
-    let mut g = Graph::new(alloc);
-    for name in ["a", "b"] {
-        let id = add(&mut g, alloc, name, Kind::Buffer(byte(alloc)?))?;
-        g.add_wire(first(id), first(id)).ok().ok_or("no wire")?;
-    }
-    let one = buffer(alloc, "a")?;
-    let other = buffer(alloc, "b")?;
-    cross(&mut g, alloc, one, other)?;
-    let a = g.find(b"a".as_slice()).ok_or("no node")?;
-    let b = g.find(b"b".as_slice()).ok_or("no node")?;
+    let mut g = Graph::new(rt.alloc());
+    add_loops(&mut g, rt.alloc())?;
+    let (one, other) = (buffer(rt.alloc(), "a")?, buffer(rt.alloc(), "b")?);
+    cross(&mut g, rt.alloc(), one, other)?;
+    let (a, b) = (id_of(&g, "a")?, id_of(&g, "b")?);
     assert_eq!(rt; g.wire_from(first(a)), Some(first(b)));
     assert_eq!(rt; g.wire_from(first(b)), Some(first(a)));
     assert_eq!(rt; g.slots(), 2);

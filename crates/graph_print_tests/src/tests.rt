@@ -1,6 +1,6 @@
 //! The texts of graphs.
 ghost use Rattle.std.specs.Prelude.{IfOk};
-ghost use Rattle.components.specs.Node.{KeptOk};
+ghost use Rattle.components.specs.Node.{KeptOk, NodeOk};
 
 use components::{Kind, Node, is_name, kept_by_key, kind_ok};
 use fun_expr::Fun;
@@ -82,6 +82,19 @@ fn kept(alloc: Global, kind: &Kind, pairs: &[(&str, &str)]) -> Result<Items<(Tex
     Ok(Items::new(kept))
 }
 
+fn node(alloc: Global, name: &str, number: usize, pairs: &[(&str, &str)]) -> Result<Node, Fail>
+    ensures { IfOk result NodeOk }
+{
+    let name = text(alloc, name)?;
+    let kind = kind(alloc, number)?;
+    let kept = kept(alloc, &kind, pairs)?;
+    if is_name(&name) && kind_ok(&kind) {
+        Ok(Node { name, kind, kept })
+    } else {
+        Err("no node".into())
+    }
+}
+
 fn add(
     g: &mut Graph,
     alloc: Global,
@@ -89,15 +102,8 @@ fn add(
     number: usize,
     pairs: &[(&str, &str)],
 ) -> Result<(), Fail> {
-    let kind = kind(alloc, number)?;
-    let kept = kept(alloc, &kind, pairs)?;
-    let name = text(alloc, name)?;
-    if !is_name(&name) || !kind_ok(&kind) {
-        return Err("no node".into());
-    }
-    g.add_node(Node { name, kind, kept })
-        .ok()
-        .ok_or("not added")?;
+    let node = node(alloc, name, number, pairs)?;
+    g.add_node(node).ok().ok_or("not added")?;
     Ok(())
 }
 
@@ -118,14 +124,18 @@ fn printed(alloc: Global, g: &Graph) -> Result<String, Fail> {
     Ok(String::from_utf8(text_of(alloc, g)?).ok().ok_or("no text")?)
 }
 
+/// The graph of one node of a kind, printed.
+fn alone(alloc: Global, number: usize) -> Result<String, Fail> {
+    let mut g = Graph::new(alloc);
+    add(&mut g, alloc, "n", number, &[])?;
+    printed(alloc, &g)
+}
+
 #[test]
 fn kinds(rt: HostRuntime) -> Result<(), Fail> {
-    let alloc = rt.alloc();
     for (number, pairs) in KINDS.iter().enumerate() {
-        let mut g = Graph::new(alloc);
-        add(&mut g, alloc, "n", number, &[])?;
-        let want = format!(in alloc; "digraph G {{\n  \"n\" [{pairs}];\n}}\n")?;
-        assert_eq!(rt; printed(alloc, &g)?.as_str(), want.as_str());
+        let want = format!(in rt.alloc(); "digraph G {{\n  \"n\" [{pairs}];\n}}\n")?;
+        assert_eq!(rt; alone(rt.alloc(), number)?.as_str(), want.as_str());
     }
     Ok(())
 }
@@ -138,6 +148,18 @@ const KEPT: [(&str, &str); 5] = [
     ("a\"b", "\"c\""),
     ("", "1"),
 ];
+
+/// Names, numbers of kinds, and what is kept, in another order than it is printed in.
+const NODES: [(&str, usize, &[(&str, &str)]); 5] = [
+    ("ü", 9, &[]),
+    ("a2", 2, &[]),
+    ("Z", 9, &KEPT),
+    ("a10", 3, &[]),
+    ("a", 3, &[]),
+];
+
+/// Wires, each from an output to the first input of a node.
+const WIRES: [(&str, u8, &str); 3] = [("a10", 2, "ü"), ("a", 1, "a10"), ("a2", 1, "Z")];
 
 /// Nodes of which not all ports are on a wire.
 const GRAPH: &str = r#"digraph G {
@@ -152,18 +174,20 @@ const GRAPH: &str = r#"digraph G {
 }
 "#;
 
-#[test]
-fn graph(rt: HostRuntime) -> Result<(), Fail> {
-    let alloc = rt.alloc();
+fn built(alloc: Global) -> Result<Graph, Fail> {
     let mut g = Graph::new(alloc);
-    add(&mut g, alloc, "ü", 9, &[])?;
-    add(&mut g, alloc, "a2", 2, &[])?;
-    add(&mut g, alloc, "Z", 9, &KEPT)?;
-    add(&mut g, alloc, "a10", 3, &[])?;
-    add(&mut g, alloc, "a", 3, &[])?;
-    join(&mut g, "a10", 2, "ü")?;
-    join(&mut g, "a", 1, "a10")?;
-    join(&mut g, "a2", 1, "Z")?;
-    assert_eq!(rt; printed(alloc, &g)?.as_str(), GRAPH);
+    for (name, number, pairs) in &NODES {
+        add(&mut g, alloc, name, *number, pairs)?;
+    }
+    for (source, port, target) in &WIRES {
+        join(&mut g, source, *port, target)?;
+    }
+    Ok(g)
+}
+
+#[test]
+fn a_graph(rt: HostRuntime) -> Result<(), Fail> {
+    let g = built(rt.alloc())?;
+    assert_eq!(rt; printed(rt.alloc(), &g)?.as_str(), GRAPH);
     Ok(())
 }
