@@ -1,0 +1,13 @@
+mod Ends
+mod ByNames
+mod Pairs
+mod Filling
+mod Besides
+mod Feeding
+mod Buffering
+mod BufferIds
+mod HandingOn
+mod Linked
+mod LinkIds
+mod Plugs
+mod PlugSteps
