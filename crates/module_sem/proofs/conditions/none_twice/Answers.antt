@@ -1,4 +1,4 @@
-use Rattle.std.proofs.Common.{◌∙◌, false, sym, true≢false}
+use Rattle.std.proofs.Common.{◌∙◌, sym, true≢false}
 use Rattle.module_sem.specs.GraphLinks.{AreOfDifferentEnds}
 use Rattle.module_sem.proofs.Ends.{no_link}
 use Rattle.module_sem.proofs.Pairs.{first_more, pairs_behind}

@@ -1,4 +1,4 @@
-use Rattle.std.proofs.Common.{◌∙◌, false, get_or, map, sym, ap, subst}
+use Rattle.std.proofs.Common.{◌∙◌, get_or, map, sym, ap, subst}
 use Rattle.components.specs.NamedGraph.{IsTyped}
 use Rattle.circuits.specs.Circuit.{circuit_of}
 use Rattle.circuits.specs.Plug.{CanPlug}
