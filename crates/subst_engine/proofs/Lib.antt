@@ -1,5 +1,15 @@
 pub mod Counted
+pub mod Ends
+pub mod FreshLists
+pub mod Gathering
+pub mod GoneLists
+pub mod ManyChanges
 pub mod Marks
+pub mod NewWires
 pub mod NodeMatching
+pub mod OuterPorts
+pub mod PartExchanged
+pub mod PartMade
 pub mod PrefixNames
 pub mod PrefixNumbers
+pub mod WireLists

@@ -1,11 +1,10 @@
 -- The part that a rule looks for is found where each of its inner nodes is.
-use Rattle.std.proofs.Common.{◌≡◌, ◌↔◌, ℕ, ◌≤◌, true, cond, length, Option, Some, None, is_some, refl, sym, ap, subst, ◌∙◌, true≢false}
+use Rattle.std.proofs.Common.{◌≡◌, ◌↔◌, ℕ, ◌≤◌, true, cond, length, Option, Some, None, is_some, refl, sym, ap, subst, ◌∙◌}
 use Rattle.std.specs.FinMap as map
 use Rattle.std.proofs.lemmas.Option.{none-some, same_Some, cond_some}
 use Rattle.components.specs.declared.kind.Kind.{Kind}
 use Rattle.components.specs.Name.{Name, Port, port_get}
 use Rattle.components.specs.Kind.{ins}
-use Rattle.components.specs.Node.{Body}
 use Rattle.components.specs.NamedGraph.{NamedGraph}
 use Rattle.components.specs.Numbered.{Within, within}
 use Rattle.circuits.specs.Circuit.{circuit_of, kind_of_body}
@@ -15,6 +14,7 @@ use Rattle.graph_core.specs.declared.place.NodeId.{NodeId}
 use Rattle.graph_core.specs.Denoting.{port_denoted}
 use Rattle.graph_core.specs.GraphValue.{GraphValue, Denotes, IsGraph, port_of}
 use Rattle.graph_core.specs.Open.{port_at}
+use Rattle.subst_engine.proofs.Ends.{inner_there}
 use Rattle.subst_engine.specs.Matching.{inner_source, AreFedAlike, NodeMatches, IdMatches, StandsIn, IdHasRoom}
 
 -- Sources that are inner nodes of left
@@ -44,23 +44,16 @@ module _ (g left : NamedGraph) where
 
 -- By ids
 
-inner_there : (g : GraphValue) (name : Name) → has_inner g.graph name ≡ true → (body : Body) × (map.get g.graph.nodes name ≡ Some body)
-inner_there g name inner = by (map.get g.graph.nodes name) refl
-  where
-    by : (o : Option Body) → map.get g.graph.nodes name ≡ o → (body : Body) × (map.get g.graph.nodes name ≡ Some body)
-    by None is = absurd (true≢false (sym inner ∙ ap (λ o. is_inner (kind_of_body o)) is))
-    by (Some body) is = (body, is)
-
 pub stands_by_ids : (g : NamedGraph) (left : GraphValue) → IsGraph left → ((id : NodeId) → IdMatches g left id) → StandsIn left.graph g
 stands_by_ids g left is each name inner =
-    let (body, found) = inner_there left name inner in
+    let (body, found) = inner_there left.graph name inner in
     let (id, denotes) = is.live name body found in
     each id name denotes inner
 
 pub room_by_ids : (g left : NamedGraph) (right : GraphValue) → IsGraph right → ((id : NodeId) → IdHasRoom g left right id) → IsNew (circuit_of g) (circuit_of left) (circuit_of right.graph)
 room_by_ids g left right is each name kind found inner =
     let is_inner_there : has_inner right.graph name ≡ true = ap is_inner found ∙ inner in
-    let (body, there) = inner_there right name is_inner_there in
+    let (body, there) = inner_there right.graph name is_inner_there in
     let (id, denotes) = is.live name body there in
     each id name denotes is_inner_there
 

@@ -1,5 +1,10 @@
+pub mod EndPorts
+pub mod Gathered
 pub mod Matching
+pub mod NewWires
+pub mod PartLists
 pub mod Prefix
 pub mod PrefixNumber
+pub mod Replaced
 pub mod Rule
 pub mod Word

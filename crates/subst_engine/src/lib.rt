@@ -5,17 +5,24 @@
 //!   Contracts see a rule by names (`specs/Rule.antt`). `RuleWord` has the words.
 //! - `matches`: whether a rule can be applied to a graph: the inner nodes of its left graph stand there, with the same names, kinds and
 //!   wires between them, and those of its right graph find no node of their names.
+//! - `replace`: applies a rule that matches: the inner nodes of its left graph go, those of its right graph come, and each input of the
+//!   right graph gives one wire. The graph stays typed and refines what it was.
 //!
 //! Where nodes are named `ooo_0_in`, `ooo_1_in` and `ooo_3_in`, the least number is 2.
 #![tactic(auto)]
 
+mod fresh;
+mod gone;
 mod matching;
 mod named;
 mod prefix;
+mod replacing;
 mod rule;
+mod wires;
 mod word;
 
 pub use matching::matches;
 pub use prefix::fresh_prefix;
+pub use replacing::{ReplaceFault, replace};
 pub use rule::Rule;
 pub use word::RuleWord;

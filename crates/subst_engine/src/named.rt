@@ -33,6 +33,14 @@ pub(crate) fn kind_at<'a>(g: &'a Graph, name: &[u8]) -> Option<&'a Kind>
     Some(&g.node(g.find(name)?)?.kind)
 }
 
+/// The kind of the node of this id.
+pub(crate) fn kind_of(g: &Graph, id: NodeId) -> Option<&Kind>
+    ensures { option_copied result ≡ (circuit_of g.now.graph).kind_at (name_by g.now.ids id) }
+{
+    g.is_graph();
+    Some(&g.node(id)?.kind)
+}
+
 /// The name of the node of this id, and the empty one where none is live.
 pub(crate) fn name_of(g: &Graph, id: NodeId) -> &[u8]
     ensures { result.now ≡ name_by g.now.ids id }

@@ -3,3 +3,5 @@
 
 #[cfg(test)]
 mod prefixes;
+#[cfg(test)]
+mod rules;
