@@ -11,7 +11,7 @@ use Rattle.graph_core.specs.GraphValue.{GraphValue, Denotes, IsGraph}
 use Rattle.graph_core.specs.Place.{id_of, index_of}
 use Rattle.subst_engine.specs.PartLists.{AreGone, GoneBelow, IsGone, IsInnerAt, IsInnerBelow}
 use Rattle.subst_engine.proofs.Ends.{inner_there}
-use Rattle.subst_engine.proofs.Gathering.{none_gathered, gather_none, gather_one}
+use Rattle.subst_engine.proofs.Gathering.{gather_none, gather_one}
 use Rattle.subst_engine.proofs.ManyChanges.{all_in, contained_where_in}
 
 -- Inner nodes by their indices
@@ -53,9 +53,6 @@ module _ (g left : GraphValue) (is_g : IsGraph g) (is : IsGraph left) where
 
   abbrev Differ : NodeId → NodeId → Type 0
   Differ i j = i ≢ j
-
-  pub no_gone : GoneBelow g left 0 []
-  no_gone = none_gathered Gives Differ (IsInnerBelow left 0) (λ name (k, below, there). omega arith)
 
   module _ (index : ℕ) (gone : List NodeId) (so_far : GoneBelow g left index gone) where
     pub no_more_gone : ((name : Name) → ¬ (IsInnerAt left index name)) → GoneBelow g left (index + 1) gone

@@ -67,9 +67,6 @@ module _ (g left right : NamedGraph) (can : CanReplace g left right) where
   exit_of_left : (n : Name) (a : Shape) → (circuit_of right).kind_at n ≡ Some (Exit a) → (circuit_of left).kind_at n ≡ Some (Exit a)
   exit_of_left n a = (can.is_rule.ports.exits n a).0
 
-  pub entry_of_left : (n : Name) (b : Shape) → (circuit_of right).kind_at n ≡ Some (Entry b) → (circuit_of left).kind_at n ≡ Some (Entry b)
-  entry_of_left n b = (can.is_rule.ports.entries n b).0
-
   module _ (fed : ConsumerIsFed) where
     -- Where the new wire of an input enters
 

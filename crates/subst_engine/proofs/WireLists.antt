@@ -5,7 +5,7 @@ use Rattle.std.specs.List.{Contains}
 use Rattle.std.specs.Prelude.{unwrap_or}
 use Rattle.std.proofs.lemmas.Bool.{cases_eq}
 use Rattle.std.proofs.lemmas.List.Elements.{All-contains}
-use Rattle.std.proofs.lemmas.Option.{none-some, same_Some}
+use Rattle.std.proofs.lemmas.Option.{same_Some}
 use Rattle.port_types.specs.declared.side.Side.TheVariants.{Ins}
 use Rattle.components.specs.declared.kind.Kind.{Kind}
 use Rattle.components.specs.declared.node.Node.{Node}
@@ -28,7 +28,7 @@ use Rattle.subst_engine.specs.EndPorts.{count_inputs}
 use Rattle.subst_engine.specs.NewWires.{CanReplace}
 use Rattle.subst_engine.specs.PartLists.{AreGone, AreNewWires, IsAtPlace, IsInputAt, IsGone, IsInputBelow, ServesSomeInput, IsWireFor, TargetsDiffer, WiresBelow, WiresTo}
 use Rattle.subst_engine.proofs.Ends.{found_body}
-use Rattle.subst_engine.proofs.Gathering.{none_gathered, gather_none, gather_one}
+use Rattle.subst_engine.proofs.Gathering.{gather_none, gather_one}
 use Rattle.subst_engine.proofs.ManyChanges.{all_in, contained_where_in}
 use Rattle.subst_engine.proofs.NewWires.{one_target}
 
@@ -69,9 +69,6 @@ module _ (g : GraphValue) (left : NamedGraph) (right : GraphValue) (is : IsGraph
 
   abbrev To : ℕ → ℕ → Port → Type 0
   To index bound p = IsInputBelow right index p ⊎ IsInputAt right index bound p
-
-  pub no_wires : WiresBelow g left right fresh 0 []
-  no_wires = none_gathered Gives Differ (Below 0) (λ p input. let below = input.below in omega arith)
 
   below_more : (index : ℕ) (p : Port) → Below index p → Below (index + 1) p
   below_more index p input = record { index = input.index; below = let below = input.below in omega arith; denotes = input.denotes; before = input.before; fed = input.fed }
@@ -136,13 +133,6 @@ module _ (g : GraphValue) (left : NamedGraph) (right : GraphValue) (is : IsGraph
               let few : p.port ≤ count = subst (λ n. p.port ≤ n) (ap (λ n. count_inputs ((circuit_of right.graph).kind_at n)) node ∙ sym counted) (input_within right is p input.before input.fed).1 in
               inr (record { denotes = here; below = omega arith; before = input.before; fed = input.fed })
         ]
-
-    -- there is no node with this index
-    pub no_node_wired : map.get right.ids (id_of index) ≡ None → WiresBelow g left right fresh index wires → WiresBelow g left right fresh (index + 1) wires
-    no_node_wired none so_far = gather_none Gives Differ (Below index) (Below (index + 1)) (below_more index) wires so_far (λ p input. elim (at_index index p input) [
-      | inl before ↦ before
-      | inr here ↦ absurd (none-some p.node (sym none ∙ here))
-    ])
 
   -- The same for the node of an id
 
