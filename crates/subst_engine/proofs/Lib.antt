@@ -3,6 +3,7 @@ pub mod Ends
 pub mod FreshLists
 pub mod Gathering
 pub mod GoneLists
+pub mod MadeGraphs
 pub mod ManyChanges
 pub mod Marks
 pub mod NewWires

@@ -1,5 +1,6 @@
 pub mod EndPorts
 pub mod Gathered
+pub mod Making
 pub mod Matching
 pub mod NewWires
 pub mod PartLists

@@ -62,7 +62,7 @@ fn copy_node(node: &Node) -> Result<Node, NoMemory>
     Ok(Node { name, kind, kept })
 }
 
-fn copy_kind(kind: &Kind) -> Result<Kind, NoMemory>
+pub(crate) fn copy_kind(kind: &Kind) -> Result<Kind, NoMemory>
     ensures { IfOk result (λ copy. copy ≡ kind.now) }
 {
     Ok(kind.clone()?)

@@ -7,12 +7,15 @@
 //!   wires between them, and those of its right graph find no node of their names.
 //! - `replace`: applies a rule that matches: the inner nodes of its left graph go, those of its right graph come, and each input of the
 //!   right graph gives one wire. The graph stays typed and refines what it was.
+//! - `AtFault`, `bare_node`, `bare_copy`, `rule_graph`: what the constructors of rules share: why one has no answer, nodes without kept
+//!   attributes, and the graph of a list of nodes and wires, for the two sides of a rule.
 //!
 //! Where nodes are named `ooo_0_in`, `ooo_1_in` and `ooo_3_in`, the least number is 2.
 #![tactic(auto)]
 
 mod fresh;
 mod gone;
+mod making;
 mod matching;
 mod named;
 mod prefix;
@@ -21,6 +24,7 @@ mod rule;
 mod wires;
 mod word;
 
+pub use making::{AtFault, bare_copy, bare_node, rule_graph};
 pub use matching::matches;
 pub use prefix::fresh_prefix;
 pub use replacing::{ReplaceFault, replace};
