@@ -1,0 +1,5 @@
+//! The tests of `pure_extract`, in a crate of their own: they are proved over its contracts, and it need not be proved again with them.
+#![tactic(auto)]
+
+#[cfg(test)]
+mod drop_buffer;
