@@ -41,6 +41,11 @@ fn first(node: NodeId) -> PortAt {
     PortAt { node, port: 1 }
 }
 
+fn add_fork(g: &mut Graph, alloc: Global, name: &str) -> Result<(), Fail> {
+    let _ = add(g, alloc, name, Kind::Fork(byte(alloc)?, 2))?;
+    Ok(())
+}
+
 fn wire(g: &mut Graph, source: NodeId, target: NodeId) -> Result<(), Fail> {
     Ok(
         g.add_wire(first(source), first(target))
@@ -73,23 +78,57 @@ fn indices(g: &Graph, alloc: Global) -> Result<Vec<usize>, Fail> {
     Ok(indices)
 }
 
+fn remove(g: &mut Graph, name: &str) -> Result<(), Fail> {
+    let id = id_of(g, name)?;
+    let _ = g.remove_node(id);
+    Ok(())
+}
+
+fn copy_of(g: &Graph, alloc: Global) -> Result<Graph, Fail> {
+    Ok(g.copy(alloc)?)
+}
+
+/// Whether the graph is typed, and the same as the other.
+fn is_typed_as(g: &Graph, other: &Graph) -> bool {
+    check_typed(g).is_ok() && same_graph(g, other)
+}
+
+/// Whether the first output of a node feeds the first input of another.
+fn feeds(g: &Graph, source: &str, target: &str) -> bool {
+    match (g.find(source.as_bytes()), g.find(target.as_bytes())) {
+        (Some(a), Some(b)) => {
+            g.wire_from(first(a)) == Some(first(b)) && g.wire_into(first(b)) == Some(first(a))
+        }
+        _ => false,
+    }
+}
+
+/// Whether the first input of the node is on a wire.
+fn is_fed(g: &Graph, name: &str) -> bool {
+    match g.find(name.as_bytes()) {
+        Some(id) => g.wire_into(first(id)).is_some(),
+        None => false,
+    }
+}
+
 #[test]
 fn a_copy_is_the_same_graph(rt: HostRuntime) -> Result<(), Fail> {
     let mut g = row(rt.alloc())?;
-    let copy = g.copy(rt.alloc())?;
-    assert!(rt; same_graph(&g, &copy) && check_typed(&copy).is_ok());
-    let _ = g.remove_node(id_of(&g, "b")?);
-    assert!(rt; !same_graph(&g, &copy) && check_typed(&g).is_err());
+    let copy = copy_of(&g, rt.alloc())?;
+    assert!(rt; is_typed_as(&g, &copy) && is_typed_as(&copy, &g));
+    remove(&mut g, "b")?;
+    assert!(rt; check_typed(&g).is_err() && !same_graph(&g, &copy));
     Ok(())
 }
 
 #[test]
 fn a_free_slot_is_taken_first(rt: HostRuntime) -> Result<(), Fail> {
     let mut g = row(rt.alloc())?;
-    let _ = g.remove_node(id_of(&g, "b")?);
-    let fork = add(&mut g, rt.alloc(), "c", Kind::Fork(byte(rt.alloc())?, 2))?;
-    assert!(rt; g.wire_into(first(fork)).is_none() && g.slots() == 3);
+    remove(&mut g, "b")?;
+    add_fork(&mut g, rt.alloc(), "c")?;
+    assert!(rt; !is_fed(&g, "c") && !is_fed(&g, "a10"));
     assert_eq!(rt; indices(&g, rt.alloc())?.as_slice(), [2, 0, 1].as_slice());
+    assert_eq!(rt; g.slots(), 3);
     Ok(())
 }
 
@@ -118,18 +157,20 @@ fn exchange_nothing(g: &mut Graph, alloc: Global) -> Result<(), Fail> {
     Ok(())
 }
 
+fn replace_two(g: &mut Graph, alloc: Global, a: &str, b: &str, name: &str) -> Result<(), Fail> {
+    let (a, b) = (id_of(g, a)?, id_of(g, b)?);
+    loop_for(g, alloc, a, b, name)
+}
+
 #[test]
 fn one_node_for_two(rt: HostRuntime) -> Result<(), Fail> {
     let mut g = row(rt.alloc())?;
-    let (entry, buffer, exit) = (id_of(&g, "a2")?, id_of(&g, "b")?, id_of(&g, "a10")?);
-    loop_for(&mut g, rt.alloc(), entry, buffer, "c")?;
+    replace_two(&mut g, rt.alloc(), "a2", "b", "c")?;
     exchange_nothing(&mut g, rt.alloc())?;
-    let single = id_of(&g, "c")?;
-    assert_eq!(rt; g.wire_from(first(single)), Some(first(single)));
-    assert!(rt; g.wire_into(first(exit)).is_none() && g.slots() == 3);
-    loop_for(&mut g, rt.alloc(), exit, single, "d")?;
-    assert_eq!(rt; indices(&g, rt.alloc())?.len(), 1);
-    assert!(rt; check_typed(&g).is_ok() && g.slots() == 3);
+    assert!(rt; feeds(&g, "c", "c") && !is_fed(&g, "a10"));
+    replace_two(&mut g, rt.alloc(), "a10", "c", "d")?;
+    assert!(rt; feeds(&g, "d", "d") && check_typed(&g).is_ok());
+    assert_eq!(rt; (indices(&g, rt.alloc())?.len(), g.slots()), (1, 3));
     Ok(())
 }
 
@@ -174,15 +215,18 @@ fn add_loops(g: &mut Graph, alloc: Global) -> Result<(), Fail> {
     Ok(())
 }
 
+fn cross_two(g: &mut Graph, alloc: Global) -> Result<(), Fail> {
+    let (one, other) = (buffer(alloc, "a")?, buffer(alloc, "b")?);
+    cross(g, alloc, one, other)
+}
+
 #[test]
 fn two_wires_exchange_their_ends(rt: HostRuntime) -> Result<(), Fail> {
     let mut g = Graph::new(rt.alloc());
     add_loops(&mut g, rt.alloc())?;
-    let (one, other) = (buffer(rt.alloc(), "a")?, buffer(rt.alloc(), "b")?);
-    cross(&mut g, rt.alloc(), one, other)?;
-    let (a, b) = (id_of(&g, "a")?, id_of(&g, "b")?);
-    assert_eq!(rt; g.wire_from(first(a)), Some(first(b)));
-    assert_eq!(rt; g.wire_from(first(b)), Some(first(a)));
+    assert!(rt; feeds(&g, "a", "a") && feeds(&g, "b", "b"));
+    cross_two(&mut g, rt.alloc())?;
+    assert!(rt; feeds(&g, "a", "b") && feeds(&g, "b", "a"));
     assert_eq!(rt; g.slots(), 2);
     Ok(())
 }
