@@ -1,0 +1,12 @@
+mod NodeKinds
+mod Constants
+mod Order
+mod BackPaths
+mod Closed
+mod Ascending
+mod OneLoop
+mod Apart
+mod ShareNone
+mod Counting
+mod Faultless
+mod OneFault

@@ -1,0 +1,10 @@
+pub mod Polarity
+pub mod Reached
+pub mod BackPath
+pub mod Feeders
+pub mod BodyOrder
+pub mod Weight
+pub mod Loop
+pub mod Faults
+pub mod OffCycle
+pub mod Laws
