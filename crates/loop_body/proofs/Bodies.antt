@@ -12,7 +12,7 @@ use Rattle.loop_body.proofs.ExprLists.{total-append}
 use Rattle.components.specs.declared.kind.Kind.{Kind}
 use Rattle.loop_body.specs.BodyKind.{weight}
 use Rattle.loop_body.specs.declared.body_port.BodyPort.{BodyPort}
-use Rattle.loop_body.specs.Body.{in_row, entry, NodesFit}
+use Rattle.loop_body.specs.Body.{in_row, entry, NodesFit, flat}
 use Rattle.loop_body.specs.BodyFunction.{Built, wire_at, with_node, node_wires, built}
 use Rattle.loop_body.proofs.Lists.{some_inj, heads, append_nil}
 use Rattle.loop_body.proofs.Tables.{entry-front, RowsFit, tokens_at_ports}
@@ -151,7 +151,7 @@ builds laws start fields is_length (node ∷ nodes) (ports ∷ inputs) so_far ta
     let t = tokens_at_ports table before (table_fits env so_far.table table before means) ports (ins node) fit.1 in
     let is_x = row_is before rest x node ports fit.0 t (row_now before rest x node nodes ports inputs rows) in
     let wires = map (wire_at so_far.table) ports in
-    let made = node_wires fields node wires so_far.binds in
+    let made = node_wires fields node (flat wires) so_far.binds in
     let n = node_means laws start fields is_length node wires t.taken so_far.binds fit.0 sound (wires_at_ports env so_far.table table before means ports (ins node) t.taken fit.1 t.are) in
     let means' : TableMeans (environment start made.binds) so_far.table table before = subst (λ e. TableMeans e so_far.table table before) (sym n.grows.is) (table_behind env n.grows.more so_far.table table before means) in
     let row : RowMeans (environment start made.binds) made.wires (outs node) x = subst (RowMeans (environment start made.binds) made.wires (outs node)) (sym is_x) n.row in

@@ -1,7 +1,7 @@
 -- The ends of a body: its turn, and what its function gives.
 use Rattle.std.proofs.Common.{◌≡◌, ℕ, zero, suc, ◌+◌, ◌<◌, ◌≤◌, List, [], ◌∷◌, ◌++◌, map, length, take, Some, refl, ap, sym, ◌∙◌, subst, arith, append_assoc}
 use Rattle.std.specs.Prelude.{slice_get, unwrap_or}
-use Rattle.std.specs.List.{concat, zip, flat_map}
+use Rattle.std.specs.List.{concat, zip}
 use Rattle.port_types.specs.Token.{Fits}
 use Rattle.components.specs.Kind.{Shape}
 use Rattle.circuits.specs.PortTokens.{Token}
@@ -16,9 +16,9 @@ use Rattle.loop_body.proofs.Environments.{numbers-zip}
 use Rattle.loop_body.proofs.ExprTrees.{place-field}
 use Rattle.loop_body.specs.BodyKind.{weight}
 use Rattle.loop_body.specs.declared.body_port.BodyPort.{BodyPort}
-use Rattle.loop_body.specs.Body.{Body, entry, shapes, IsBody, kinds}
+use Rattle.loop_body.specs.Body.{Body, entry, shapes, IsBody, kinds, flat}
 use Rattle.loop_body.specs.BodyValue.{IsValueAt}
-use Rattle.loop_body.specs.BodyFunction.{Places, flat, cut, settled, wire_at, fields_from, at_start, all_built, ends, body_function}
+use Rattle.loop_body.specs.BodyFunction.{Places, cut, settled, wire_at, fields_from, at_start, all_built, ends, body_function}
 use Rattle.loop_body.specs.Laws.{next_shapes}
 use Rattle.loop_body.proofs.Lists.{some_inj, heads, fits_concat, cut-concat}
 use Rattle.loop_body.proofs.Tables.{slice_get-seam, RowsFit, TokensAt, tokens_at_ports}
@@ -113,7 +113,7 @@ found_entries b (p ∷ ports) h =
     ap (λ o. o ∷ map (entry (shapes b)) ports) e ∙ ap (λ os. Some (unwrap_or (entry (shapes b) p) []) ∷ os) (found_entries b ports h.1)
 
 next_found : (b : Body) → IsBody b → Each (Found b) b.next
-next_found b ok = each_right (Found b) (flat_map (λ ports. ports) b.inputs) b.next (each_left (Found b) (flat_map (λ ports. ports) b.inputs ++ b.next) b.conditions (uses_found b ok.once))
+next_found b ok = each_right (Found b) (flat b.inputs) b.next (each_left (Found b) (flat b.inputs ++ b.next) b.conditions (uses_found b ok.once))
 
 pub next_entries : (b : Body) → IsBody b → map (entry (shapes b)) b.next ≡ map Some (next_shapes b)
 next_entries b ok = found_entries b b.next (next_found b ok)

@@ -12,8 +12,8 @@ use Rattle.fun_expr.specs.Function.{Function}
 use Rattle.loop_body.proofs.ExprTrees.{place-field, place-apply, depth-field, depth-lit, depth-apply}
 use Rattle.components.specs.declared.kind.Kind.{Kind}
 use Rattle.loop_body.specs.declared.body_port.BodyPort.{BodyPort}
-use Rattle.loop_body.specs.Body.{kinds}
-use Rattle.loop_body.specs.BodyFunction.{Wires, Built, flat, wire_at, place_then, bound_unless, settled, fork_wires, node_wires, with_node, built, function_of, body_function}
+use Rattle.loop_body.specs.Body.{kinds, flat}
+use Rattle.loop_body.specs.BodyFunction.{Wires, Built, wire_at, place_then, bound_unless, settled, fork_wires, node_wires, with_node, built, function_of, body_function}
 use Rattle.loop_body.specs.Gcd.{port, gcd_body, gcd_function, GcdFunction}
 
 abbrev remainder : Expr
@@ -24,7 +24,7 @@ differs = Apply Ne 1 (Field 2 ∷ Lit 32 0 ∷ [])
 
 -- a node, and then the rest
 step : (node : Kind) (nodes : List Kind) (ports : List BodyPort) (inputs : List (List BodyPort)) (so_far : Built) (made : Wires) (whole : Built) →
-    node_wires 2 node (map (wire_at so_far.table) ports) so_far.binds ≡ made → built 2 nodes inputs (with_node so_far.table made) ≡ whole → built 2 (node ∷ nodes) (ports ∷ inputs) so_far ≡ whole
+    node_wires 2 node (flat (map (wire_at so_far.table) ports)) so_far.binds ≡ made → built 2 nodes inputs (with_node so_far.table made) ≡ whole → built 2 (node ∷ nodes) (ports ∷ inputs) so_far ≡ whole
 step node nodes ports inputs so_far made whole e rest = ap (λ w. built 2 nodes inputs (with_node so_far.table w)) e ∙ rest
 
 abbrev wire : Expr → List Expr
@@ -34,27 +34,27 @@ wire e = e ∷ []
 abbrev lanes : List (List Expr)
 lanes = wire (Field 0) ∷ wire (Field 1) ∷ []
 
-first_fork : node_wires 2 (Fork (field 32) 2) (wire (Field 1) ∷ []) [] ≡ record { binds = []; wires = wire (Field 1) ∷ wire (Field 1) ∷ [] }
+first_fork : node_wires 2 (Fork (field 32) 2) (wire (Field 1)) [] ≡ record { binds = []; wires = wire (Field 1) ∷ wire (Field 1) ∷ [] }
 first_fork = ap (λ o. fork_wires 2 (bound_unless o 2 (Field 1) (settled 2 []) [])) (place-field 1)
 
 depth_two : (a b : Expr) → expr_depth a ≡ 1 → expr_depth b ≡ 1 → 1 + largest (expr_depth a ∷ expr_depth b ∷ []) ≡ 2
 depth_two a b h k = ap (λ x. 1 + largest (x ∷ expr_depth b ∷ [])) h ∙ ap (λ x. 1 + largest (1 ∷ x ∷ [])) k
 
-remainder_wire : node_wires 2 (Operator Urem (32 ∷ 32 ∷ []) 32) (wire (Field 0) ∷ wire (Field 1) ∷ []) [] ≡ record { binds = []; wires = wire remainder ∷ [] }
+remainder_wire : node_wires 2 (Operator Urem (32 ∷ 32 ∷ []) 32) (Field 0 ∷ Field 1 ∷ []) [] ≡ record { binds = []; wires = wire remainder ∷ [] }
 remainder_wire = ap (λ d. if d == 64 then record { binds = remainder ∷ []; wires = wire (Field 2) ∷ [] } else record { binds = []; wires = wire remainder ∷ [] })
     (depth-apply Urem 32 (Field 0 ∷ Field 1 ∷ []) ∙ depth_two (Field 0) (Field 1) (depth-field 0) (depth-field 1))
 
-second_fork : node_wires 2 (Fork (field 32) 3) (wire remainder ∷ []) [] ≡ record { binds = remainder ∷ []; wires = wire (Field 2) ∷ wire (Field 2) ∷ wire (Field 2) ∷ [] }
+second_fork : node_wires 2 (Fork (field 32) 3) (wire remainder) [] ≡ record { binds = remainder ∷ []; wires = wire (Field 2) ∷ wire (Field 2) ∷ wire (Field 2) ∷ [] }
 second_fork = ap (λ o. fork_wires 3 (bound_unless o 2 remainder (settled 2 []) [])) (place-apply Urem 32 (Field 0 ∷ Field 1 ∷ []))
 
-differs_wire : node_wires 2 (Operator Ne (32 ∷ 32 ∷ []) 1) (wire (Field 2) ∷ wire (Lit 32 0) ∷ []) (remainder ∷ []) ≡ record { binds = remainder ∷ []; wires = wire differs ∷ [] }
+differs_wire : node_wires 2 (Operator Ne (32 ∷ 32 ∷ []) 1) (Field 2 ∷ Lit 32 0 ∷ []) (remainder ∷ []) ≡ record { binds = remainder ∷ []; wires = wire differs ∷ [] }
 differs_wire = ap (λ d. if d == 64 then record { binds = remainder ∷ differs ∷ []; wires = wire (Field 3) ∷ [] } else record { binds = remainder ∷ []; wires = wire differs ∷ [] })
     (depth-apply Ne 1 (Field 2 ∷ Lit 32 0 ∷ []) ∙ depth_two (Field 2) (Lit 32 0) (depth-field 2) (depth-lit 32 0))
 
-third_fork : node_wires 2 (Fork (field 1) 3) (wire differs ∷ []) (remainder ∷ []) ≡ record { binds = remainder ∷ differs ∷ []; wires = wire (Field 3) ∷ wire (Field 3) ∷ wire (Field 3) ∷ [] }
+third_fork : node_wires 2 (Fork (field 1) 3) (wire differs) (remainder ∷ []) ≡ record { binds = remainder ∷ differs ∷ []; wires = wire (Field 3) ∷ wire (Field 3) ∷ wire (Field 3) ∷ [] }
 third_fork = ap (λ o. fork_wires 3 (bound_unless o 3 differs (settled 2 []) (remainder ∷ []))) (place-apply Ne 1 (Field 2 ∷ Lit 32 0 ∷ []))
 
-zero_wire : node_wires 2 (Constant (field 32) 32 0) (wire (Field 2) ∷ []) (remainder ∷ []) ≡ record { binds = remainder ∷ []; wires = wire (Lit 32 0) ∷ [] }
+zero_wire : node_wires 2 (Constant (field 32) 32 0) (wire (Field 2)) (remainder ∷ []) ≡ record { binds = remainder ∷ []; wires = wire (Lit 32 0) ∷ [] }
 zero_wire = refl
 
 -- the table row by row

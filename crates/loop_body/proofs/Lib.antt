@@ -20,3 +20,9 @@ mod PureMeaning
 mod Tables
 mod Turns
 mod Uses
+mod Depths
+mod Taking
+mod Settled
+mod Steps
+mod Distinct
+mod Whole

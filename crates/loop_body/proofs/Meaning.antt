@@ -8,7 +8,8 @@ use Rattle.fun_expr.specs.Each.{Each, total}
 use Rattle.fun_expr.specs.Expr.{expr_value}
 use Rattle.fun_expr.specs.declared.expr.Expr.{Expr}
 use Rattle.loop_body.proofs.ExprLists.{each_append, total-append}
-use Rattle.loop_body.specs.BodyFunction.{flat, cut}
+use Rattle.loop_body.specs.Body.{flat}
+use Rattle.loop_body.specs.BodyFunction.{cut}
 use Rattle.loop_body.proofs.Lists.{append_nil, fits_append, fits_take, fits_drop}
 use Rattle.loop_body.proofs.Giving.{only, number_of}
 use Rattle.loop_body.proofs.Binding.{Good, all_good_behind, good_values, cost}
@@ -101,14 +102,6 @@ row_only env (w ∷ ws) shape [] h = absurd h
 row_only env (w ∷ []) shape (v ∷ []) h = subst (λ es. Means env es shape v) (sym (append_nil w)) h.0
 row_only env (w ∷ []) shape (v ∷ v' ∷ vs) h = absurd h.1
 row_only env (w ∷ w' ∷ ws) shape (v ∷ vs) h = absurd h.1
-
--- the wires of a Buffer
-pub row_pass : (env : List (ℕ × ℕ)) (ws : List (List Expr)) (shape : Shape) (vs : List Token) → RowMeans env ws (shape ∷ []) vs → RowMeans env ws (shape ∷ []) (only vs ∷ [])
-row_pass env [] shape vs h = absurd h
-row_pass env (w ∷ ws) shape [] h = absurd h
-row_pass env (w ∷ []) shape (v ∷ []) h = h
-row_pass env (w ∷ []) shape (v ∷ v' ∷ vs) h = absurd h.1
-row_pass env (w ∷ w' ∷ ws) shape (v ∷ vs) h = absurd h.1
 
 -- one wire as several
 pub row_cut : (env : List (ℕ × ℕ)) (es : List Expr) (ss : List Shape) (v : Token) → Means env es (concat ss) v → RowMeans env (cut ss es) ss (cut ss v)

@@ -15,10 +15,11 @@ use Rattle.fun_expr.specs.declared.expr.Expr.TheVariants.{Lit, Apply}
 use Rattle.loop_body.proofs.ExprTrees.{value-lit}
 use Rattle.components.specs.declared.kind.Kind.{Kind}
 use Rattle.loop_body.specs.BodyKind.{MayStand, weight}
-use Rattle.loop_body.specs.BodyFunction.{Wires, flat, settled, node_wires}
+use Rattle.loop_body.specs.Body.{flat}
+use Rattle.loop_body.specs.BodyFunction.{Wires, settled, node_wires}
 use Rattle.loop_body.proofs.Giving.{only, number_of, gives, node_fits}
 use Rattle.loop_body.proofs.Binding.{cost, Sound, grows_not, settles}
-use Rattle.loop_body.proofs.Meaning.{RowMeans, row_flat, row_only, row_pass, row_cut, row_operands, row_cost, cost-flat, cost-cut}
+use Rattle.loop_body.proofs.Meaning.{RowMeans, row_flat, row_only, row_cut, row_operands, row_cost, cost-flat, cost-cut}
 use Rattle.loop_body.proofs.NodeMeaning.{OpLaws, NodeMeans, operates, operator_means, lit_good, zeros_mean, cost-lit, cost-zeros, fork_means}
 use Rattle.loop_body.proofs.PureMeaning.{pure_means}
 
@@ -40,9 +41,9 @@ spends : (start : List (ℕ × ℕ)) (binds : List Expr) (spent more : ℕ) (mad
 spends start binds spent more made shapes given le n = record { grows = n.grows; sound = n.sound; row = n.row; size = omega (arith, n.size) }
 
 pub node_means : OpLaws → (start : List (ℕ × ℕ)) (fields : ℕ) → fields ≡ length start → (node : Kind) (wires : List (List Expr)) (taken : List Token) (binds : List Expr) → MayStand node → Sound start binds →
-    RowMeans (environment start binds) wires (ins node) taken → NodeMeans start binds (row_cost wires + weight node) (node_wires fields node wires binds) (outs node) (gives node taken)
+    RowMeans (environment start binds) wires (ins node) taken → NodeMeans start binds (row_cost wires + weight node) (node_wires fields node (flat wires) binds) (outs node) (gives node taken)
 node_means laws start fields is_length (Buffer shape) wires taken binds ok sound row =
-    stays start binds (row_cost wires + 0) wires (shape ∷ []) (only taken ∷ []) sound (row_pass (environment start binds) wires shape taken row) (omega arith)
+    stays start binds (row_cost wires + 0) (flat wires ∷ []) (shape ∷ []) (only taken ∷ []) sound (row_only (environment start binds) wires shape taken row, tt) (omega (arith, cost-flat wires))
 node_means laws start fields is_length (Fork shape count) wires taken binds ok sound row =
     let m = row_only (environment start binds) wires shape taken row in
     spends start binds (total cost (flat wires)) (row_cost wires + 0) _ _ _ (omega (arith, cost-flat wires))
@@ -71,7 +72,7 @@ node_means laws start fields is_length (Sink0 shape) wires taken binds ok sound 
 node_means laws start fields is_length (Pure f shape) wires taken binds ok sound row =
     let m = row_only (environment start binds) wires f.input taken row in
     spends start binds (total cost (flat wires) + fun_size f) (row_cost wires + fun_size f) _ _ _ (omega (arith, cost-flat wires))
-    (subst (λ s. NodeMeans start binds (total cost (flat wires) + fun_size f) (node_wires fields (Pure f shape) wires binds) (s ∷ []) (fun_value f (only taken) ∷ [])) ok.1.2
+    (subst (λ s. NodeMeans start binds (total cost (flat wires) + fun_size f) (node_wires fields (Pure f shape) (flat wires) binds) (s ∷ []) (fun_value f (only taken) ∷ [])) ok.1.2
     (pure_means laws start fields is_length binds (flat wires) (settled fields (flat wires) binds) f (only taken) ok.1.1 (settles start fields is_length (flat wires) binds sound m.good) m))
 node_means laws start fields is_length (Entry shape) wires taken binds ok sound row = absurd ok.0
 node_means laws start fields is_length (Exit shape) wires taken binds ok sound row = absurd ok.0

@@ -1,7 +1,6 @@
 -- Each output is used once: sums over what is used are sums over the table.
 use Rattle.std.proofs.Common.{◌≡◌, ℕ, suc, ◌+◌, List, [], ◌∷◌, ◌++◌, map, length, Some, refl, ap, sym, ◌∙◌, arith, append_assoc}
 use Rattle.std.specs.Prelude.{slice_get, unwrap_or, IsPermutation, fold}
-use Rattle.std.specs.List.{flat_map}
 use Rattle.std.proofs.lemmas.List.Sorted.{All-permutation, IsPermutation-sym, sum_by-IsPermutation}
 use Rattle.std.proofs.lemmas.List.Elements.{All-from_recursion, recursion_from_All}
 use Rattle.components.specs.Kind.{Shape}
@@ -11,8 +10,8 @@ use Rattle.fun_expr.specs.Each.{Each, total}
 use Rattle.fun_expr.specs.declared.expr.Expr.{Expr}
 use Rattle.loop_body.proofs.ExprLists.{total-append}
 use Rattle.loop_body.specs.declared.body_port.BodyPort.{BodyPort}
-use Rattle.loop_body.specs.Body.{Body, in_row, entry, row_ports, table_ports, uses, shapes}
-use Rattle.loop_body.specs.BodyFunction.{flat, wire_at}
+use Rattle.loop_body.specs.Body.{Body, in_row, entry, row_ports, table_ports, uses, shapes, flat}
+use Rattle.loop_body.specs.BodyFunction.{wire_at}
 use Rattle.loop_body.proofs.Tables.{slice_get-seam}
 use Rattle.loop_body.proofs.Binding.{cost}
 use Rattle.loop_body.proofs.Meaning.{RowMeans, map-append, row_cost}
@@ -96,7 +95,7 @@ fold_total : {A : Type 0} (f : A → ℕ) (n : ℕ) (xs : List A) → fold (λ a
 fold_total f n [] = omega arith
 fold_total f n (x ∷ xs) = omega (arith, fold_total f (n + f x) xs)
 
-total_permuted : {A : Type 0} (f : A → ℕ) (xs ys : List A) → IsPermutation xs ys → total f xs ≡ total f ys
+pub total_permuted : {A : Type 0} (f : A → ℕ) (xs ys : List A) → IsPermutation xs ys → total f xs ≡ total f ys
 total_permuted f xs ys h = omega (arith, sum_by-IsPermutation f xs ys h, fold_total f 0 xs, fold_total f 0 ys)
 
 pub total-map : {A B : Type 0} (f : B → ℕ) (g : A → B) (xs : List A) → total f (map g xs) ≡ total (λ x. f (g x)) xs
@@ -116,11 +115,11 @@ wires_in_order ws (p ∷ ports) (x ∷ xs) h =
     let rest : map (entry ws) ports ≡ map Some xs = cc in
     ap (λ o. unwrap_or o [] ∷ map (wire_at ws) ports) first ∙ ap (λ ys. x ∷ ys) (wires_in_order ws ports xs rest)
 
-used_total : (ws : List (List (List Expr))) (inputs : List (List BodyPort)) → total (λ p. total cost (wire_at ws p)) (flat_map (λ ports. ports) inputs) ≡ used_cost ws inputs
+used_total : (ws : List (List (List Expr))) (inputs : List (List BodyPort)) → total (λ p. total cost (wire_at ws p)) (flat inputs) ≡ used_cost ws inputs
 used_total ws [] = refl
 used_total ws (ports ∷ inputs) =
-    total-append (λ p. total cost (wire_at ws p)) ports (flat_map (λ ports. ports) inputs) ∙
-    ap (λ n. n + total (λ p. total cost (wire_at ws p)) (flat_map (λ ports. ports) inputs)) (sym (total-map (total cost) (wire_at ws) ports)) ∙
+    total-append (λ p. total cost (wire_at ws p)) ports (flat inputs) ∙
+    ap (λ n. n + total (λ p. total cost (wire_at ws p)) (flat inputs)) (sym (total-map (total cost) (wire_at ws) ports)) ∙
     ap (λ n. row_cost (map (wire_at ws) ports) + n) (used_total ws inputs)
 
 -- all that is made is used once
@@ -134,8 +133,8 @@ made_is_used b h env ws tokens means =
       arith,
       whole,
       total_permuted f (uses b) (table_ports 0 (shapes b)) h,
-      total-append f (flat_map (λ ports. ports) b.inputs ++ b.next) b.conditions,
-      total-append f (flat_map (λ ports. ports) b.inputs) b.next,
+      total-append f (flat b.inputs ++ b.next) b.conditions,
+      total-append f (flat b.inputs) b.next,
       used_total ws b.inputs,
       total-map (total cost) (wire_at ws) b.next,
       total-map (total cost) (wire_at ws) b.conditions,

@@ -1,6 +1,5 @@
 -- Bodies: a Split of the lanes, nodes that take from it and from earlier nodes, data wires and condition wires.
 use Rattle.std.specs.Prelude.{◌≡◌, ◌≢◌, ℕ, zero, suc, ◌+◌, ◌≤◌, List, [], ◌∷◌, ◌++◌, map, length, Option, Some, None, slice_get, Contains, IsPermutation, All, AllPairs}
-use Rattle.std.specs.List.{flat_map}
 use Rattle.components.specs.declared.kind.Kind.{Kind}
 use Rattle.components.specs.declared.node.Node.{Node}
 use Rattle.components.specs.Kind.{Shape, AreParts, ins, outs}
@@ -53,9 +52,14 @@ abbrev pub table_ports : ℕ → List (List Shape) → List BodyPort
 table_ports node [] = []
 table_ports node (row ∷ rows) = row_ports node 1 row ++ table_ports (node + 1) rows
 
+-- all the items in one list
+abbrev pub flat : {A : Type 0} → List (List A) → List A
+flat [] = []
+flat (xs ∷ rest) = xs ++ flat rest
+
 -- all places that name an output
 abbrev pub uses : Body → List BodyPort
-uses b = flat_map (λ ports. ports) b.inputs ++ b.next ++ b.conditions
+uses b = flat b.inputs ++ b.next ++ b.conditions
 
 -- a node that a walk backwards goes through: a Fork or a Buffer
 abbrev pub PassesOn : Option Kind → Type 0

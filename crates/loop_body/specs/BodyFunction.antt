@@ -9,12 +9,7 @@ use Rattle.fun_expr.specs.declared.expr.Expr.TheVariants.{Field, Lit, Apply}
 use Rattle.fun_expr.specs.Expr.{expr_depth, place_of, renumbered}
 use Rattle.fun_expr.specs.Function.{Function}
 use Rattle.loop_body.specs.declared.body_port.BodyPort.{BodyPort}
-use Rattle.loop_body.specs.Body.{Body, kinds, entry}
-
--- all the items in one list
-abbrev pub flat : {A : Type 0} → List (List A) → List A
-flat [] = []
-flat (xs ∷ rest) = xs ++ flat rest
+use Rattle.loop_body.specs.Body.{Body, kinds, flat, entry}
 
 -- the parts of a list that have as many items as the shapes have fields
 abbrev pub cut : {A : Type 0} → List Shape → List A → List (List A)
@@ -90,32 +85,32 @@ module _ (fields : ℕ) where
   abbrev pub pure_wire : Function → Places → Wires
   pure_wire f input = outs_wire f.outs (appended f.binds input.places input.binds)
 
-  -- what the output wires of a node stand for, by what its input wires stand for; where the node is none of a body they are none
-  abbrev pub node_wires : Kind → List (List Expr) → List Expr → Wires
-  node_wires (Buffer shape) ins binds = record { binds = binds; wires = ins }
-  node_wires (Fork shape count) ins binds = fork_wires count (settled (flat ins) binds)
-  node_wires (Join parts) ins binds = record { binds = binds; wires = flat ins ∷ [] }
-  node_wires (Split parts) ins binds = record { binds = binds; wires = cut parts (flat ins) }
-  node_wires (Operator op widths width) ins binds = operator_wire (Apply op width (flat ins)) binds
-  node_wires (Constant shape width value) ins binds = record { binds = binds; wires = (Lit width (value % 2 ^ width) ∷ []) ∷ [] }
-  node_wires (Source0 shape) ins binds = record { binds = binds; wires = map (λ width. Lit width 0) shape ∷ [] }
-  node_wires (Pure f shape) ins binds = pure_wire f (settled (flat ins) binds)
-  node_wires (Sink0 shape) ins binds = no_wires binds
-  node_wires (Entry shape) ins binds = no_wires binds
-  node_wires (Exit shape) ins binds = no_wires binds
-  node_wires (Mux shape) ins binds = no_wires binds
-  node_wires (Branch shape) ins binds = no_wires binds
-  node_wires (Merge shape count) ins binds = no_wires binds
-  node_wires (CtrlMerge shape count width) ins binds = no_wires binds
-  node_wires (Init value mark) ins binds = no_wires binds
-  node_wires (Tagger shape tags) ins binds = no_wires binds
+  -- what the output wires of a node stand for, by the expressions that its inputs stand for, in order; where it is none of a body they are none
+  abbrev pub node_wires : Kind → List Expr → List Expr → Wires
+  node_wires (Buffer shape) es binds = record { binds = binds; wires = es ∷ [] }
+  node_wires (Fork shape count) es binds = fork_wires count (settled es binds)
+  node_wires (Join parts) es binds = record { binds = binds; wires = es ∷ [] }
+  node_wires (Split parts) es binds = record { binds = binds; wires = cut parts es }
+  node_wires (Operator op widths width) es binds = operator_wire (Apply op width es) binds
+  node_wires (Constant shape width value) es binds = record { binds = binds; wires = (Lit width (value % 2 ^ width) ∷ []) ∷ [] }
+  node_wires (Source0 shape) es binds = record { binds = binds; wires = map (λ width. Lit width 0) shape ∷ [] }
+  node_wires (Pure f shape) es binds = pure_wire f (settled es binds)
+  node_wires (Sink0 shape) es binds = no_wires binds
+  node_wires (Entry shape) es binds = no_wires binds
+  node_wires (Exit shape) es binds = no_wires binds
+  node_wires (Mux shape) es binds = no_wires binds
+  node_wires (Branch shape) es binds = no_wires binds
+  node_wires (Merge shape count) es binds = no_wires binds
+  node_wires (CtrlMerge shape count width) es binds = no_wires binds
+  node_wires (Init value mark) es binds = no_wires binds
+  node_wires (Tagger shape tags) es binds = no_wires binds
 
   -- the binds and the table behind each node in order
   abbrev pub built : List Kind → List (List BodyPort) → Built → Built
   built [] inputs so_far = so_far
   built (node ∷ nodes) [] so_far = so_far
   built (node ∷ nodes) (ports ∷ inputs) so_far =
-      built nodes inputs (with_node so_far.table (node_wires node (map (wire_at so_far.table) ports) so_far.binds))
+      built nodes inputs (with_node so_far.table (node_wires node (flat (map (wire_at so_far.table) ports)) so_far.binds))
 
 -- the fields from a place on, one for each width
 abbrev pub fields_from : ℕ → Shape → List Expr

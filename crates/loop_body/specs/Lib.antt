@@ -5,3 +5,6 @@ pub mod BodyValue
 pub mod Gcd
 pub mod Laws
 pub mod Loops
+pub mod Applied
+pub mod Binding
+pub mod Tables
