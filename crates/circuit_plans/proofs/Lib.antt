@@ -1,0 +1,5 @@
+pub mod Plans
+pub mod PlanAfter
+pub mod PlanTyped
+pub mod Namings
+pub mod Drawn
