@@ -1,3 +1,4 @@
+-- The step of a node of a plan, from what it takes and gives.
 use Rattle.std.proofs.Common.{◌≡◌, ℕ, zero, suc, refl, sym, ap, subst, ◌∙◌, true, false, Bool, if◌then◌else◌, List, [], ◌∷◌, ◌++◌}
 use Rattle.circuits.specs.PortTokens.{Token, at_port, one}
 use Rattle.circuits.specs.Firing.{Label, Acts}
