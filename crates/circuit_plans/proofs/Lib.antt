@@ -3,3 +3,9 @@ pub mod PlanAfter
 pub mod PlanTyped
 pub mod Namings
 pub mod Drawn
+pub mod Places
+pub mod PlanMoves
+pub mod PlanFamilies
+pub mod FireEach
+pub mod Tuples
+pub mod NoThrough
