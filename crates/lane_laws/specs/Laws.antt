@@ -1,0 +1,44 @@
+-- What is proved of parts with lanes and of what comes in their place.
+use Rattle.std.specs.Prelude.{◌≡◌, ℕ, suc, List, map}
+use Rattle.std.specs.List.{concat}
+use Rattle.components.specs.Name.{Name}
+use Rattle.components.specs.Kind.{Shape, AreParts}
+use Rattle.circuits.specs.Circuit.{circuit_of}
+use Rattle.circuits.specs.Refines.{Refines}
+use Rattle.circuits.specs.Replacing.{NoneTwice}
+use Rattle.circuits.specs.ReplacedGraph.{IsRule}
+use Rattle.circuits.specs.BufferRule.{straight}
+use Rattle.lane_laws.specs.SplitJoin.{SplitJoined, split_joined_nodes, split_joined_graph}
+use Rattle.lane_laws.specs.SplitJoin as split_join
+use Rattle.lane_laws.specs.TrimFork.{Output, CanTrim, Untrimmed, entry, exit, untrimmed_nodes, untrimmed_graph, Trimmed, new_entry, new_exit, trimmed_nodes, trimmed_graph}
+
+-- A wire in the place of a Split whose outputs are joined again
+
+-- it may come there
+abbrev pub SplitJoinIsRule : Type 0
+SplitJoinIsRule = (parts : List Shape) (name : SplitJoined → Name) → AreParts parts → NoneTwice (map name split_joined_nodes) →
+    IsRule (split_joined_graph parts name) (straight (name split_join.entry) (name split_join.exit) (concat parts))
+
+-- and shows nothing that the two do not, in any surrounding circuit
+abbrev pub SplitJoinRefines : Type 0
+SplitJoinRefines = (parts : List Shape) (name : SplitJoined → Name) → AreParts parts → NoneTwice (map name split_joined_nodes) →
+    Refines (circuit_of (straight (name split_join.entry) (name split_join.exit) (concat parts))) (circuit_of (split_joined_graph parts name))
+
+-- The Fork of the other outputs in the place of a Fork and a Sink
+
+-- the names of the nodes of each of the two differ, but for the ends, which have one name in both
+pub record TrimNames (a : Shape) (others : ℕ) (old : Untrimmed a others → Name) (new : Trimmed a others → Name) : Type 0 where
+  pub old_names : NoneTwice (map old (untrimmed_nodes a others))
+  pub new_names : NoneTwice (map new (trimmed_nodes a others))
+  pub same_entry : new new_entry ≡ old entry
+  pub same_exits : (l : Output a others) → new (new_exit l) ≡ old (exit l)
+
+-- it may come there
+abbrev pub TrimForkIsRule : Type 0
+TrimForkIsRule = (a : Shape) (others : ℕ) (s : Output a (suc others)) (old : Untrimmed a others → Name) (new : Trimmed a others → Name) →
+    CanTrim a others → TrimNames a others old new → IsRule (untrimmed_graph a others s old) (trimmed_graph a others new)
+
+-- and shows nothing that the two do not, in any surrounding circuit
+abbrev pub TrimForkRefines : Type 0
+TrimForkRefines = (a : Shape) (others : ℕ) (s : Output a (suc others)) (old : Untrimmed a others → Name) (new : Trimmed a others → Name) →
+    CanTrim a others → TrimNames a others old new → Refines (circuit_of (trimmed_graph a others new)) (circuit_of (untrimmed_graph a others s old))

@@ -1,0 +1,3 @@
+pub mod SplitJoin
+pub mod TrimFork
+pub mod Laws

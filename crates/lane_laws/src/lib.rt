@@ -1,0 +1,35 @@
+//! Parts of circuits with as many lanes as one likes, and what comes in their place: definitions and laws, and no calls.
+//!
+//! The definitions, in `specs/`: `SplitJoin`, a Split whose outputs are joined again, and a wire;
+//! `TrimFork`, a Fork with a Sink at one of its outputs, and the Fork of the other outputs; `Laws`: what the functions below prove.
+//!
+//! Each function is a law: its contract cites `Laws`, and its body names the laws of lower crates that the proof needs.
+#![tactic(auto)]
+
+ghost use Rattle.lane_laws.specs.Laws.{SplitJoinIsRule, SplitJoinRefines, TrimForkIsRule, TrimForkRefines};
+
+use circuits::graph_typed_as_circuit;
+use fun_expr::fun_value_fits;
+use op_table::value_fits;
+
+/// For every list of shapes, a wire may come in the place of a Split whose outputs are joined again, and shows nothing that the two do
+/// not show, in no surrounding circuit.
+pub fn split_join_refines()
+    ensures rule { SplitJoinIsRule }
+    ensures refines { SplitJoinRefines }
+{
+    value_fits();
+    fun_value_fits();
+    graph_typed_as_circuit();
+}
+
+/// For every number of outputs, and whichever of them feeds the Sink, the Fork of the other outputs may come in the place of a Fork and
+/// a Sink, and shows nothing that the two do not show, in no surrounding circuit.
+pub fn trim_fork_refines()
+    ensures rule { TrimForkIsRule }
+    ensures refines { TrimForkRefines }
+{
+    value_fits();
+    fun_value_fits();
+    graph_typed_as_circuit();
+}
