@@ -1,0 +1,2 @@
+mod MarkLists
+mod MarkedNodes
