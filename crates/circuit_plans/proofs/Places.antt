@@ -156,3 +156,7 @@ in_places (x ∷ xs) node (later l) = tail (subst (In (node (later l))) (sym (ma
 pub each_at : {A B : Type 0} {xs : List A} (P : B → Type 0) (f : Place xs → B) (ls : List (Place xs)) → ((l : Place xs) → P (f l)) → AllByRecursion P (map f ls)
 each_at P f [] h = tt
 each_at P f (l ∷ ls) h = (h l, each_at P f ls h)
+
+pub each_both : {A : Type 0} (P : A → Type 0) (xs ys : List A) → AllByRecursion P xs → AllByRecursion P ys → AllByRecursion P (xs ++ ys)
+each_both P [] ys h k = k
+each_both P (x ∷ xs) ys h k = (h.0, each_both P xs ys h.1 k)

@@ -1,4 +1,4 @@
--- tokens of several lanes, side by side and concat
+-- tokens of several lanes, side by side and joined
 use Rattle.std.proofs.Common.{◌≡◌, ℕ, refl, sym, ap, ◌∙◌, length, map, List, [], ◌∷◌, ◌++◌, append-nil, append_assoc}
 use Rattle.circuits.specs.Firing.{FitEach}
 use Rattle.circuits.specs.PortTokens.{Token, at_port, one}
@@ -24,7 +24,7 @@ pub each_more : {A : Type 0} (P : A → Type 0) (ws : List A) (v : A) → AllByR
 each_more P [] v h k = (k, tt)
 each_more P (x ∷ ws) v h k = (h.0, each_more P ws v h.1 k)
 
--- tokens of one shape have one length, so concat tokens come apart in one way
+-- tokens of one shape have one length, so joined tokens come apart in one way
 record Cut (x y u w : Token) : Type 0 where
   head_is : x ≡ y
   tail_is : u ≡ w
