@@ -5,3 +5,9 @@ mod SplitJoinGraphs
 mod TrimForkPlans
 mod TrimFork
 mod TrimForkGraphs
+mod Lanes
+mod LaneShapes
+mod BranchPlans
+mod CombineBranches
+mod CombineBranchesTyped
+mod BranchGraphs

@@ -11,6 +11,7 @@ use Rattle.circuits.specs.BufferRule.{straight}
 use Rattle.lane_laws.specs.SplitJoin.{SplitJoined, split_joined_nodes, split_joined_graph}
 use Rattle.lane_laws.specs.SplitJoin as split_join
 use Rattle.lane_laws.specs.TrimFork.{Output, CanTrim, Untrimmed, entry, exit, untrimmed_nodes, untrimmed_graph, Trimmed, new_entry, new_exit, trimmed_nodes, trimmed_graph}
+use Rattle.lane_laws.specs.CombineBranches.{Branches, branches_graph, OneBranch, one_branch_graph, CanCombine, BranchNames}
 
 -- A wire in the place of a Split whose outputs are joined again
 
@@ -42,3 +43,15 @@ TrimForkIsRule = (a : Shape) (others : ℕ) (s : Output a (suc others)) (old : U
 abbrev pub TrimForkRefines : Type 0
 TrimForkRefines = (a : Shape) (others : ℕ) (s : Output a (suc others)) (old : Untrimmed a others → Name) (new : Trimmed a others → Name) →
     CanTrim a others → TrimNames a others old new → Refines (circuit_of (trimmed_graph a others new)) (circuit_of (untrimmed_graph a others s old))
+
+-- One Branch in the place of the Branches of several lanes
+
+-- it may come there
+abbrev pub CombiningBranchesIsRule : Type 0
+CombiningBranchesIsRule = (lanes : List Shape) (old : Branches lanes → Name) (new : OneBranch lanes → Name) → CanCombine lanes → BranchNames lanes old new →
+    IsRule (branches_graph lanes old) (one_branch_graph lanes new)
+
+-- and shows nothing that they do not, in any surrounding circuit
+abbrev pub CombinedBranchesRefine : Type 0
+CombinedBranchesRefine = (lanes : List Shape) (old : Branches lanes → Name) (new : OneBranch lanes → Name) → CanCombine lanes → BranchNames lanes old new →
+    Refines (circuit_of (one_branch_graph lanes new)) (circuit_of (branches_graph lanes old))

@@ -1,3 +1,4 @@
 pub mod SplitJoin
 pub mod TrimFork
+pub mod CombineBranches
 pub mod Laws

@@ -1,12 +1,13 @@
 //! Parts of circuits with as many lanes as one likes, and what comes in their place: definitions and laws, and no calls.
 //!
 //! The definitions, in `specs/`: `SplitJoin`, a Split whose outputs are joined again, and a wire;
-//! `TrimFork`, a Fork with a Sink at one of its outputs, and the Fork of the other outputs; `Laws`: what the functions below prove.
+//! `TrimFork`, a Fork with a Sink at one of its outputs, and the Fork of the other outputs;
+//! `CombineBranches`, the Branches of several lanes, and one Branch; `Laws`: what the functions below prove.
 //!
 //! Each function is a law: its contract cites `Laws`, and its body names the laws of lower crates that the proof needs.
 #![tactic(auto)]
 
-ghost use Rattle.lane_laws.specs.Laws.{SplitJoinIsRule, SplitJoinRefines, TrimForkIsRule, TrimForkRefines};
+ghost use Rattle.lane_laws.specs.Laws.{CombinedBranchesRefine, CombiningBranchesIsRule, SplitJoinIsRule, SplitJoinRefines, TrimForkIsRule, TrimForkRefines};
 
 use circuits::graph_typed_as_circuit;
 use fun_expr::fun_value_fits;
@@ -28,6 +29,17 @@ pub fn split_join_refines()
 pub fn trim_fork_refines()
     ensures rule { TrimForkIsRule }
     ensures refines { TrimForkRefines }
+{
+    value_fits();
+    fun_value_fits();
+    graph_typed_as_circuit();
+}
+
+/// For every list of lanes, one Branch between a Join and two Splits may come in the place of the lanes' Branches and the Fork that leads
+/// the condition to them, and shows nothing that they do not show, in no surrounding circuit.
+pub fn branch_combine_refines()
+    ensures rule { CombiningBranchesIsRule }
+    ensures refines { CombinedBranchesRefine }
 {
     value_fits();
     fun_value_fits();
