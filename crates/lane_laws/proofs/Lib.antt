@@ -11,3 +11,10 @@ mod BranchPlans
 mod CombineBranches
 mod CombineBranchesTyped
 mod BranchGraphs
+mod TreePorts
+mod MuxPlans
+mod Trees
+mod TreeFlow
+mod CombineMuxes
+mod CombineMuxesTyped
+mod MuxGraphs

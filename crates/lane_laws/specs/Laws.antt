@@ -1,6 +1,7 @@
 -- What is proved of parts with lanes and of what comes in their place.
 use Rattle.std.specs.Prelude.{◌≡◌, ℕ, suc, List, map}
 use Rattle.std.specs.List.{concat}
+use Rattle.components.specs.declared.kind.Kind.{Kind}
 use Rattle.components.specs.Name.{Name}
 use Rattle.components.specs.Kind.{Shape, AreParts}
 use Rattle.circuits.specs.Circuit.{circuit_of}
@@ -12,6 +13,7 @@ use Rattle.lane_laws.specs.SplitJoin.{SplitJoined, split_joined_nodes, split_joi
 use Rattle.lane_laws.specs.SplitJoin as split_join
 use Rattle.lane_laws.specs.TrimFork.{Output, CanTrim, Untrimmed, entry, exit, untrimmed_nodes, untrimmed_graph, Trimmed, new_entry, new_exit, trimmed_nodes, trimmed_graph}
 use Rattle.lane_laws.specs.CombineBranches.{Branches, branches_graph, OneBranch, one_branch_graph, CanCombine, BranchNames}
+use Rattle.lane_laws.specs.CombineMuxes.{Tree, Muxes, muxes_graph, OneMux, one_mux_graph, CanCombineMuxes, MuxNames}
 
 -- A wire in the place of a Split whose outputs are joined again
 
@@ -55,3 +57,15 @@ CombiningBranchesIsRule = (lanes : List Shape) (old : Branches lanes → Name) (
 abbrev pub CombinedBranchesRefine : Type 0
 CombinedBranchesRefine = (lanes : List Shape) (old : Branches lanes → Name) (new : OneBranch lanes → Name) → CanCombine lanes → BranchNames lanes old new →
     Refines (circuit_of (one_branch_graph lanes new)) (circuit_of (branches_graph lanes old))
+
+-- One Mux in the place of the Muxes of several lanes and the tree that leads a select to them
+
+-- it may come there
+abbrev pub CombiningMuxesIsRule : Type 0
+CombiningMuxesIsRule = (kinds : List Kind) (lanes : List Shape) (tree : Tree kinds lanes) (old : Muxes kinds lanes → Name) (new : OneMux lanes → Name) →
+    CanCombineMuxes kinds lanes → MuxNames kinds lanes old new → IsRule (muxes_graph kinds lanes tree old) (one_mux_graph lanes new)
+
+-- and shows nothing that they do not, in any surrounding circuit
+abbrev pub CombinedMuxesRefine : Type 0
+CombinedMuxesRefine = (kinds : List Kind) (lanes : List Shape) (tree : Tree kinds lanes) (old : Muxes kinds lanes → Name) (new : OneMux lanes → Name) →
+    CanCombineMuxes kinds lanes → MuxNames kinds lanes old new → Refines (circuit_of (one_mux_graph lanes new)) (circuit_of (muxes_graph kinds lanes tree old))

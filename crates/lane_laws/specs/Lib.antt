@@ -1,4 +1,5 @@
 pub mod SplitJoin
 pub mod TrimFork
 pub mod CombineBranches
+pub mod CombineMuxes
 pub mod Laws

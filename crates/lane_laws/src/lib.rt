@@ -2,12 +2,13 @@
 //!
 //! The definitions, in `specs/`: `SplitJoin`, a Split whose outputs are joined again, and a wire;
 //! `TrimFork`, a Fork with a Sink at one of its outputs, and the Fork of the other outputs;
-//! `CombineBranches`, the Branches of several lanes, and one Branch; `Laws`: what the functions below prove.
+//! `CombineBranches`, the Branches of several lanes, and one Branch; `CombineMuxes`, the Muxes of several lanes with
+//! the tree of Forks and Buffers that leads one select to them, and one Mux; `Laws`: what the functions below prove.
 //!
 //! Each function is a law: its contract cites `Laws`, and its body names the laws of lower crates that the proof needs.
 #![tactic(auto)]
 
-ghost use Rattle.lane_laws.specs.Laws.{CombinedBranchesRefine, CombiningBranchesIsRule, SplitJoinIsRule, SplitJoinRefines, TrimForkIsRule, TrimForkRefines};
+ghost use Rattle.lane_laws.specs.Laws.{CombinedBranchesRefine, CombinedMuxesRefine, CombiningBranchesIsRule, CombiningMuxesIsRule, SplitJoinIsRule, SplitJoinRefines, TrimForkIsRule, TrimForkRefines};
 
 use circuits::graph_typed_as_circuit;
 use fun_expr::fun_value_fits;
@@ -40,6 +41,17 @@ pub fn trim_fork_refines()
 pub fn branch_combine_refines()
     ensures rule { CombiningBranchesIsRule }
     ensures refines { CombinedBranchesRefine }
+{
+    value_fits();
+    fun_value_fits();
+    graph_typed_as_circuit();
+}
+
+/// For every list of lanes and every tree of Forks and Buffers, one Mux between two Joins and a Split may come in the place of the lanes'
+/// Muxes and the tree that leads one select to them, and shows nothing that they do not show, in no surrounding circuit.
+pub fn mux_combine_refines()
+    ensures rule { CombiningMuxesIsRule }
+    ensures refines { CombinedMuxesRefine }
 {
     value_fits();
     fun_value_fits();
