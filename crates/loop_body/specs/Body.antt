@@ -87,7 +87,8 @@ pub record OneCondition (b : Body) : Type 0 where
   pub roots : Each (λ p. BodyRoot b p root) b.conditions
   pub depends : FromLanes b root.node
 
--- a body of a loop
+-- A body of a loop: the lanes are the outputs of a Split; the nodes fit together, and their names and kept attributes are right; each output is named once;
+-- there is a condition wire of one bit for each data wire and one more, all with one root; some data wire comes from the lanes; and the body is within the limits.
 pub record IsBody (b : Body) : Type 0 where
   pub vars : AreParts b.vars
   pub nodes : NodesFit (b.vars ∷ []) (kinds b) b.inputs
