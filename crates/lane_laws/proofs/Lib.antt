@@ -18,3 +18,5 @@ mod TreeFlow
 mod CombineMuxes
 mod CombineMuxesTyped
 mod MuxGraphs
+mod GraphTree
+mod TreeGraph

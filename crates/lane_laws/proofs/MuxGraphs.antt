@@ -1,5 +1,5 @@
 -- The law of the Muxes of several lanes, of their graph.
-use Rattle.std.proofs.Common.{◌≡◌, ℕ, zero, suc, List, ◌++◌, Option, Some, None, refl, sym, ap, subst, ◌∙◌}
+use Rattle.std.proofs.Common.{◌≡◌, ℕ, zero, suc, List, ◌++◌, map, Option, Some, None, refl, sym, ap, subst, ◌∙◌}
 use Rattle.std.specs.List.{AllByRecursion}
 use Rattle.std.proofs.lemmas.Option.{none-some, same_Some}
 use Rattle.components.specs.declared.kind.Kind.{Kind}
@@ -10,7 +10,7 @@ use Rattle.circuits.specs.Root.{PassesThrough}
 use Rattle.circuits.specs.Values.{ValuesFit}
 use Rattle.circuits.specs.Circuit.{circuit_of}
 use Rattle.circuits.specs.Refines.{Refines}
-use Rattle.circuits.specs.Replacing.{In, head, tail}
+use Rattle.circuits.specs.Replacing.{In, head, tail, NoneTwice}
 use Rattle.circuits.specs.Laws.{GraphIsTyped}
 use Rattle.circuit_plans.specs.Plans.{Out, Naming, built}
 use Rattle.circuit_plans.specs.Drawing.{DrawnWire, wire}
@@ -27,10 +27,10 @@ use Rattle.lane_laws.proofs.CombineMuxesTyped.{one_mux_refines}
 
 -- what stands in the first of two lists, which is a family, or in the second
 module _ {A N : Type 0} (xs : List A) (f : Place xs → N) (rest : List N) where
-  here : (l : Place xs) → In (f l) (each_of xs f ++ rest)
+  pub here : (l : Place xs) → In (f l) (each_of xs f ++ rest)
   here l = in_front (each_of xs f) rest (f l) (in_places xs f l)
 
-  there : (n : N) → In n rest → In n (each_of xs f ++ rest)
+  pub there : (n : N) → In n rest → In n (each_of xs f ++ rest)
   there n i = in_back (each_of xs f) rest n i
 
 module _ (kinds : List Kind) (lanes : List Shape) (tree : Tree kinds lanes) where
@@ -43,7 +43,7 @@ module _ (kinds : List Kind) (lanes : List Shape) (tree : Tree kinds lanes) wher
   abbrev old_value2 : List (Muxes kinds lanes)
   old_value2 = each_of lanes value2 ++ old_value3
 
-  abbrev old_in : (n : Muxes kinds lanes) → In n (muxes_nodes kinds lanes)
+  abbrev pub old_in : (n : Muxes kinds lanes) → In n (muxes_nodes kinds lanes)
   old_in choice = head refl
   old_in (node n) = tail (here kinds node old_value2 n)
   old_in (value2 l) = tail (there kinds node old_value2 (value2 l) (here lanes value2 old_value3 l))
@@ -216,15 +216,22 @@ module _ (lanes : List Shape) where
   new_draws : Draws (one_mux lanes) (one_mux_plan lanes)
   new_draws = record { kinds = λ n. refl; all = new_in; sound = (refl, (refl, (refl, (refl, lanes_sound)))); complete = new_listed }
 
+module _ (kinds : List Kind) (lanes : List Shape) (tree : Tree kinds lanes) (name : Muxes kinds lanes → Name) (once : NoneTwice (map name (muxes_nodes kinds lanes))) where
+  abbrev pub muxes_naming : Naming (Muxes kinds lanes)
+  muxes_naming = naming name (muxes_nodes kinds lanes) (old_in kinds lanes tree) once
+
+  pub muxes_are : circuit_of (muxes_graph kinds lanes tree name) ≡ built (muxes_plan kinds lanes tree) muxes_naming
+  muxes_are = drawn_is (muxes kinds lanes tree) (muxes_plan kinds lanes tree) (old_draws kinds lanes tree) muxes_naming once
+
 module _ (kinds : List Kind) (lanes : List Shape) (tree : Tree kinds lanes) (old : Muxes kinds lanes → Name) (new : OneMux lanes → Name) (names : MuxNames kinds lanes old new) where
   abbrev old_naming : Naming (Muxes kinds lanes)
-  old_naming = naming old (muxes_nodes kinds lanes) (old_in kinds lanes tree) names.old_names
+  old_naming = muxes_naming kinds lanes tree old names.old_names
 
   abbrev new_naming : Naming (OneMux lanes)
   new_naming = naming new (one_mux_nodes lanes) (new_in lanes) names.new_names
 
   old_is : circuit_of (muxes_graph kinds lanes tree old) ≡ built (muxes_plan kinds lanes tree) old_naming
-  old_is = drawn_is (muxes kinds lanes tree) (muxes_plan kinds lanes tree) (old_draws kinds lanes tree) old_naming names.old_names
+  old_is = muxes_are kinds lanes tree old names.old_names
 
   new_is : circuit_of (one_mux_graph lanes new) ≡ built (one_mux_plan lanes) new_naming
   new_is = drawn_is (one_mux lanes) (one_mux_plan lanes) (new_draws lanes) new_naming names.new_names

@@ -4,16 +4,18 @@ use Rattle.std.specs.List.{concat}
 use Rattle.components.specs.declared.kind.Kind.{Kind}
 use Rattle.components.specs.Name.{Name}
 use Rattle.components.specs.Kind.{Shape, AreParts}
-use Rattle.circuits.specs.Circuit.{circuit_of}
+use Rattle.circuits.specs.Circuit.{Circuit, Typed, circuit_of}
 use Rattle.circuits.specs.Refines.{Refines}
 use Rattle.circuits.specs.Replacing.{NoneTwice}
 use Rattle.circuits.specs.ReplacedGraph.{IsRule}
 use Rattle.circuits.specs.BufferRule.{straight}
+use Rattle.circuit_plans.specs.Places.{Place}
 use Rattle.lane_laws.specs.SplitJoin.{SplitJoined, split_joined_nodes, split_joined_graph}
 use Rattle.lane_laws.specs.SplitJoin as split_join
 use Rattle.lane_laws.specs.TrimFork.{Output, CanTrim, Untrimmed, entry, exit, untrimmed_nodes, untrimmed_graph, Trimmed, new_entry, new_exit, trimmed_nodes, trimmed_graph}
 use Rattle.lane_laws.specs.CombineBranches.{Branches, branches_graph, OneBranch, one_branch_graph, CanCombine, BranchNames}
-use Rattle.lane_laws.specs.CombineMuxes.{Tree, Muxes, muxes_graph, OneMux, one_mux_graph, CanCombineMuxes, MuxNames}
+use Rattle.lane_laws.specs.CombineMuxes.{Stop, Tree, Muxes, node, mux, muxes_nodes, muxes_graph, OneMux, one_mux_graph, CanCombineMuxes, MuxNames}
+use Rattle.lane_laws.specs.GraphTree.{source_in_graph, IsMuxTree}
 
 -- A wire in the place of a Split whose outputs are joined again
 
@@ -69,3 +71,15 @@ CombiningMuxesIsRule = (kinds : List Kind) (lanes : List Shape) (tree : Tree kin
 abbrev pub CombinedMuxesRefine : Type 0
 CombinedMuxesRefine = (kinds : List Kind) (lanes : List Shape) (tree : Tree kinds lanes) (old : Muxes kinds lanes → Name) (new : OneMux lanes → Name) →
     CanCombineMuxes kinds lanes → MuxNames kinds lanes old new → Refines (circuit_of (one_mux_graph lanes new)) (circuit_of (muxes_graph kinds lanes tree old))
+
+-- Trees of listed nodes
+
+-- listed Forks, Buffers and Muxes of a typed circuit, where they are as above, make a tree, whose wires are those of the circuit
+abbrev pub ListedNodesMakeTree : Type 0
+ListedNodesMakeTree = (g : Circuit) (kinds : List Kind) (lanes : List Shape) (node_name : Place kinds → Name) (mux_name : Place lanes → Name) → Typed g →
+    IsMuxTree g kinds lanes node_name mux_name → (tree : Tree kinds lanes) × ((x : Stop kinds lanes) → tree.source x ≡ source_in_graph g kinds lanes node_name mux_name x)
+
+-- and each tree is found so in the graph of Muxes and this tree
+abbrev pub TreesAreFound : Type 0
+TreesAreFound = (kinds : List Kind) (lanes : List Shape) (tree : Tree kinds lanes) (name : Muxes kinds lanes → Name) → NoneTwice (map name (muxes_nodes kinds lanes)) →
+    IsMuxTree (circuit_of (muxes_graph kinds lanes tree name)) kinds lanes (λ n. name (node n)) (λ l. name (mux l))

@@ -3,12 +3,13 @@
 //! The definitions, in `specs/`: `SplitJoin`, a Split whose outputs are joined again, and a wire;
 //! `TrimFork`, a Fork with a Sink at one of its outputs, and the Fork of the other outputs;
 //! `CombineBranches`, the Branches of several lanes, and one Branch; `CombineMuxes`, the Muxes of several lanes with
-//! the tree of Forks and Buffers that leads one select to them, and one Mux; `Laws`: what the functions below prove.
+//! the tree of Forks and Buffers that leads one select to them, and one Mux; `GraphTree`, such a tree
+//! among listed nodes of a circuit; `Laws`: what the functions below prove.
 //!
 //! Each function is a law: its contract cites `Laws`, and its body names the laws of lower crates that the proof needs.
 #![tactic(auto)]
 
-ghost use Rattle.lane_laws.specs.Laws.{CombinedBranchesRefine, CombinedMuxesRefine, CombiningBranchesIsRule, CombiningMuxesIsRule, SplitJoinIsRule, SplitJoinRefines, TrimForkIsRule, TrimForkRefines};
+ghost use Rattle.lane_laws.specs.Laws.{CombinedBranchesRefine, CombinedMuxesRefine, CombiningBranchesIsRule, CombiningMuxesIsRule, ListedNodesMakeTree, SplitJoinIsRule, SplitJoinRefines, TrimForkIsRule, TrimForkRefines, TreesAreFound};
 
 use circuits::graph_typed_as_circuit;
 use fun_expr::fun_value_fits;
@@ -57,3 +58,10 @@ pub fn mux_combine_refines()
     fun_value_fits();
     graph_typed_as_circuit();
 }
+
+/// Listed Forks, Buffers and Muxes of a typed circuit, of whose inputs and selects exactly one is fed from outside them, make a tree; and
+/// each tree is found so in the graph of its Muxes.
+pub fn listed_nodes_make_a_tree()
+    ensures make { ListedNodesMakeTree }
+    ensures found { TreesAreFound }
+{}
