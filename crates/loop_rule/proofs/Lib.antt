@@ -1,0 +1,5 @@
+mod NewNames
+mod NamesDiffer
+mod DrawnMade
+mod SidesMade
+mod Instances

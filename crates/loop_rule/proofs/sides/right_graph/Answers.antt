@@ -1,0 +1,16 @@
+use Rattle.std.proofs.Common.{sym, subst, ◌∙◌}
+use Rattle.subst_engine.specs.Making.{CanMake}
+use Rattle.tagged_loop.specs.InOrderLoop.{LoopParts}
+use Rattle.tagged_loop.specs.TaggedLoop.{tagged_drawing}
+use Rattle.loop_rule.specs.Sides.{nodes_of}
+use Rattle.loop_rule.specs.TagLoop.{new_name}
+use Rattle.loop_rule.proofs.SidesMade.{right_made}
+use Rattle.loop_rule.proofs.sides.right_graph.Goals as goal
+
+pub rule_graph-requires : goal.rule_graph-requires
+rule_graph-requires c =
+    let names = c.args.names.now in
+    let loop : LoopParts = record { shape = c.args.parts.shape.now; fun = c.args.parts.fun.now; goes_back = c.args.parts.goes_back; mark = c.args.parts.mark } in
+    let all = nodes_of (tagged_drawing loop c.args.tags) (new_name c.args.prefix names) in
+    subst (λ some. CanMake some c.as_slice.result.now) (sym c.in_ok-nodes.ensures)
+    (subst (CanMake all) (sym (c.as_slice.ensures ∙ c.right_wires.ensures)) (right_made c.tagged_loop_refines.ensures.rule c.args.prefix c.args.tags names loop c.requires.can))

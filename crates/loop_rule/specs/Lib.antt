@@ -1,0 +1,4 @@
+pub mod EndNames
+pub mod TagLoop
+pub mod Listed
+pub mod Sides
