@@ -1,2 +1,3 @@
 pub mod Inserted
 pub mod DropBufferLaws
+pub mod SplitJoinLaws

@@ -1,1 +1,2 @@
 pub mod DropBuffer
+pub mod SplitJoin

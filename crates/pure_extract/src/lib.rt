@@ -4,6 +4,8 @@
 //!   what it fed.
 //! - `drop_buffer_is_sound`, `drop_buffer_leaves_out`: laws of its definition. The rule meets what a rule owes; where it was made it
 //!   matches, and what comes of it is the graph without the node.
+//! - `split_join_is_sound`: a law of the definition of the rule `split_join`, by which a Split whose outputs are joined again in their order
+//!   gives way to a wire: it meets what a rule owes. The rule is not made at nodes of a graph yet.
 //! - `AtFault`, of `subst_engine`: why a constructor has no rule.
 //!
 //! Each rule has one file of code, one of definitions in `specs/`, and one folder of proofs. `docs/RULES.md` says what the rules do, and how
@@ -14,6 +16,8 @@
 #![tactic(auto)]
 
 mod drop_buffer;
+mod split_join;
 
 pub use drop_buffer::{DropBuffer, drop_buffer_is_sound, drop_buffer_leaves_out};
+pub use split_join::split_join_is_sound;
 pub use subst_engine::AtFault;

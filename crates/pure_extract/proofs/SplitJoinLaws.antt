@@ -1,0 +1,3 @@
+-- The rule split_join: it is sound.
+pub mod SideNames
+pub mod SplitJoinSound
