@@ -21,8 +21,6 @@ mod open;
 mod plain_rows;
 mod rows;
 mod shapes;
-#[cfg(test)]
-mod tests;
 
 pub use fault::{GraphFault, GraphFaultKind, GraphRefusal};
 pub use graph::graph_of;

@@ -1,5 +1,5 @@
 -- The rule drop_buffer: a Buffer, or a Fork of one output, is left out.
-use Rattle.std.specs.Prelude.{◌≡◌, [], bytes_eq, codes, if◌then◌else◌}
+use Rattle.std.specs.Prelude.{◌≡◌, ◌≢◌, false, [], bytes_eq, codes, if◌then◌else◌}
 use Rattle.components.specs.declared.kind.Kind.{Kind}
 use Rattle.components.specs.declared.kind.Kind.TheVariants.{Buffer, Fork}
 use Rattle.components.specs.declared.node.Node.{Node}
@@ -10,7 +10,7 @@ use Rattle.components.specs.NamedGraph.{NamedGraph, IsTyped}
 use Rattle.circuits.specs.Circuit.{circuit_of}
 use Rattle.circuits.specs.Buffers.{IsBufferLike, CanDropBuffer, IsWithoutBuffer}
 use Rattle.circuits.specs.BufferRule.{straight, passing}
-use Rattle.circuits.specs.ReplacedGraph.{replaced_graph, Matches}
+use Rattle.circuits.specs.ReplacedGraph.{has_inner, replaced_graph, Matches}
 use Rattle.subst_engine.specs.declared.word.RuleWord.TheVariants.{DropBuffer}
 use Rattle.subst_engine.specs.Rule.{NamedRule, IsSoundRule}
 
@@ -68,3 +68,7 @@ DropBufferMatches = (g : NamedGraph) (b : Name) (rule : NamedRule) → IsTyped g
 abbrev pub DropBufferLeavesOut : Type 0
 DropBufferLeavesOut = (g : NamedGraph) (b : Name) (rule : NamedRule) → IsTyped g → IsDropBuffer g b rule →
     IsWithoutBuffer (replaced_graph g rule.left rule.right) g b
+
+-- and no other
+abbrev pub DropBufferTakesOne : Type 0
+DropBufferTakesOne = (g : NamedGraph) (b : Name) (rule : NamedRule) → IsDropBuffer g b rule → (n : Name) → n ≢ b → has_inner rule.left n ≡ false

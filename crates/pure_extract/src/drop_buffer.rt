@@ -8,7 +8,7 @@ ghost use Rattle.circuits.specs.Circuit.{circuit_of};
 ghost use Rattle.circuits.specs.Buffers.{CanDropBuffer, IsBufferLike};
 ghost use Rattle.circuits.specs.BufferRule.{straight};
 ghost use Rattle.subst_engine.specs.Making.{bare_node};
-ghost use Rattle.pure_extract.specs.DropBuffer.{DropBufferIsSound, DropBufferLeavesOut, DropBufferMatches, IsDropBuffer, IsPassing, Passes, drop_buffer, entry_name, exit_name, passed_shape};
+ghost use Rattle.pure_extract.specs.DropBuffer.{DropBufferIsSound, DropBufferLeavesOut, DropBufferMatches, DropBufferTakesOne, IsDropBuffer, IsPassing, Passes, drop_buffer, entry_name, exit_name, passed_shape};
 
 use circuits::{buffer_shows_nothing, dropped_is_replaced, graph_typed_as_circuit};
 use components::{Kind, Node};
@@ -93,10 +93,11 @@ pub fn drop_buffer_is_sound()
 }
 
 /// Where a rule `drop_buffer` was made it matches, and what comes of it is the graph without its node: what fed the node feeds what
-/// the node fed.
+/// the node fed. It takes no other node.
 pub fn drop_buffer_leaves_out()
     ensures matches { DropBufferMatches }
     ensures gives { DropBufferLeavesOut }
+    ensures one { DropBufferTakesOne }
 {
     graph_typed_as_circuit();
     dropped_is_replaced();

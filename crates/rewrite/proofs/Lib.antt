@@ -5,5 +5,4 @@ mod TurnsMade
 mod StrippedByTurns
 mod Refining
 mod KeepingDrains
-mod Bypassing
 mod TurnsById

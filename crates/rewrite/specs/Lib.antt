@@ -1,4 +1,4 @@
 pub mod Stripped
 pub mod Strips
 pub mod Behaviour
-pub mod Bypass
+pub mod TurnById

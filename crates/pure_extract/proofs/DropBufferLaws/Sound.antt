@@ -1,5 +1,5 @@
 -- The rule drop_buffer meets what a rule owes, matches where it was made, and there leaves out its node.
-use Rattle.std.proofs.Common.{◌≡◌, ◌≢◌, inl, inr, ℕ, if◌then◌else◌, [], ◌∷◌, Some, None, refl, sym, ap, subst, ◌∙◌}
+use Rattle.std.proofs.Common.{◌≡◌, ◌≢◌, inl, inr, ℕ, false, if◌then◌else◌, [], ◌∷◌, Option, Some, None, refl, sym, ap, subst, ◌∙◌}
 use Rattle.std.specs.FinMap as map
 use Rattle.std.proofs.lemmas.Option.{none-some, same_Some}
 use Rattle.port_types.specs.Shape.{IsShape}
@@ -16,10 +16,11 @@ use Rattle.circuits.specs.Circuit.{circuit_of, kind_of_body}
 use Rattle.circuits.specs.Refines.{Refines}
 use Rattle.circuits.specs.Buffers.{first_port, drop_node, IsBufferLike, CanDropBuffer, IsWithoutBuffer}
 use Rattle.circuits.specs.BufferRule.{bare, straight, passing}
-use Rattle.circuits.specs.ReplacedGraph.{replaced_graph, Matches, IsRule}
+use Rattle.circuits.specs.Replacing.{is_inner}
+use Rattle.circuits.specs.ReplacedGraph.{has_inner, replaced_graph, Matches, IsRule}
 use Rattle.circuits.specs.Laws.{CircuitIsTyped, GraphIsTyped, DropRefines, BufferRuleMatches, DropIsReplacement}
 use Rattle.subst_engine.specs.Rule.{NamedRule}
-use Rattle.pure_extract.specs.DropBuffer.{passed_shape, entry_name, exit_name, DropBufferIsSound, DropBufferMatches, DropBufferLeavesOut}
+use Rattle.pure_extract.specs.DropBuffer.{passed_shape, entry_name, exit_name, DropBufferIsSound, DropBufferMatches, DropBufferLeavesOut, DropBufferTakesOne}
 use Rattle.pure_extract.proofs.Inserted.{each_empty, each_inserted}
 use Rattle.pure_extract.proofs.DropBufferLaws.EndNames.{entry_other, exit_other, ends_apart}
 
@@ -226,3 +227,28 @@ leaves_out circuit law g b rule typed is =
       is = ap (λ (r : NamedRule). replaced_graph g r.left r.right) is.is
           ∙ sym (law (with_wire (without_node g b) is.can.before target) g (entry_name b) b (exit_name b) (passed_shape is.can.kind) (entry_other b) (exit_other b) typed without);
     }
+
+-- the node is the one inner node
+module _ (entry b exit : Name) (kind : Kind) (shape : Shape) where
+  abbrev nodes : map.FinMap name_cmp Body
+  nodes = (passing entry b exit kind shape).nodes
+
+  abbrev IsNoInner : Name → Body → Type 0
+  IsNoInner n body = n ≢ b → is_inner (Some body.kind) ≡ false
+
+  each_other : (n : Name) (body : Body) → map.get nodes n ≡ Some body → IsNoInner n body
+  each_other =
+      each_inserted IsNoInner name_total name_same _ entry (bare (Entry shape)) (λ _. refl)
+      (each_inserted IsNoInner name_total name_same _ b (bare kind) (λ away. absurd (away refl))
+      (each_inserted IsNoInner name_total name_same map.empty exit (bare (Exit shape)) (λ _. refl) (each_empty name_cmp IsNoInner)))
+
+  inner_alone : (n : Name) → n ≢ b → is_inner (kind_of_body (map.get nodes n)) ≡ false
+  inner_alone n other = by_node (map.get nodes n) refl
+    where
+      by_node : (found : Option Body) → map.get nodes n ≡ found → is_inner (kind_of_body (map.get nodes n)) ≡ false
+      by_node None e = ap (λ o. is_inner (kind_of_body o)) e
+      by_node (Some body) e = ap (λ o. is_inner (kind_of_body o)) e ∙ each_other n body e other
+
+pub takes_one : DropBufferTakesOne
+takes_one g b rule is n other =
+    subst (λ (r : NamedRule). has_inner r.left n ≡ false) (sym is.is) (inner_alone (entry_name b) b (exit_name b) is.can.kind (passed_shape is.can.kind) n other)
