@@ -1,0 +1,7 @@
+//! The tests of `loop_rule`, in a crate of their own: they are proved over its contracts, and it need not be proved again with them.
+#![tactic(auto)]
+
+#[cfg(test)]
+mod graphs;
+#[cfg(test)]
+mod tag_loop;
