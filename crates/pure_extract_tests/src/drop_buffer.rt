@@ -1,27 +1,14 @@
 //! The rule `drop_buffer` at the nodes of one graph.
 ghost use Rattle.std.specs.Prelude.{IfOk};
 ghost use Rattle.components.specs.NamedGraph.{IsTyped};
-ghost use Rattle.components.specs.Node.{NodeOk};
 
-use components::{Kind, Node, is_name, kind_ok};
-use graph_core::{Graph, NodeId, PortAt, check_typed, same_graph};
-use port_types::{Items, Shape, Text};
+use crate::graphs::{Row, feeds, graph, row_of, typed};
+use graph_core::{Graph, same_graph};
 use pure_extract::{AtFault, DropBuffer};
 use std::alloc::Global;
 use std::process::Abort;
 use std::test::Fail;
 use subst_engine::{Rule, RuleWord, matches, replace};
-
-/// Nodes with their components, and wires: each from an output, by its node and number, to the only input of a node.
-#[derive(Clone, Copy)]
-struct Row<'a> {
-    nodes: &'a [(&'a str, &'a str)],
-    wires: &'a [(&'a str, u8, &'a str)],
-}
-
-fn row_of<'a>(nodes: &'a [(&'a str, &'a str)], wires: &'a [(&'a str, u8, &'a str)]) -> Row<'a> {
-    Row { nodes, wires }
-}
 
 /// A Buffer, a Fork of one output and a Buffer `in` in a row, before a Fork of two outputs; and a Buffer that is wired to itself.
 const GRAPH: Row<'static> = Row {
@@ -46,67 +33,11 @@ const GRAPH: Row<'static> = Row {
     ],
 };
 
-fn byte(alloc: Global) -> Result<Shape, Fail> {
-    Ok(Shape::new(vec![in alloc; 8]?).ok_or("no shape")?)
-}
-
-fn kind(shape: Shape, word: &str) -> Kind {
-    match word {
-        "Entry" => Kind::Entry(shape),
-        "Exit" => Kind::Exit(shape),
-        "Fork" => Kind::Fork(shape, 1),
-        "Fork2" => Kind::Fork(shape, 2),
-        "Sink" => Kind::Sink0(shape),
-        _ => Kind::Buffer(shape),
-    }
-}
-
-/// A node without kept attributes.
-fn node(alloc: Global, name: &str, word: &str) -> Result<Node, Fail>
-    ensures { IfOk result NodeOk }
-{
-    let name = Text::from_string(String::from_str(alloc, name)?);
-    let kind = kind(byte(alloc)?, word);
-    if !is_name(&name) || !kind_ok(&kind) {
-        return Err("no node".into());
-    }
-    let kept = Items::new(Vec::new(alloc));
-    Ok(Node { name, kind, kept })
-}
-
-fn port(g: &Graph, name: &str, port: u8) -> Result<PortAt, Fail> {
-    let node = g.find(name.as_bytes()).ok_or("no such node")?;
-    Ok(PortAt { node, port })
-}
-
-fn join(g: &mut Graph, source: PortAt, target: PortAt) -> Result<(), Fail> {
-    g.add_wire(source, target).ok().ok_or("not joined")?;
-    Ok(())
-}
-
-fn graph(alloc: Global, row: Row<'_>) -> Result<Graph, Fail> {
-    let mut g = Graph::new(alloc);
-    for (name, word) in row.nodes {
-        g.add_node(node(alloc, name, word)?)
-            .ok()
-            .ok_or("not added")?;
-    }
-    for (source, number, target) in row.wires {
-        let (source, target) = (port(&g, source, *number)?, port(&g, target, 1)?);
-        join(&mut g, source, target)?;
-    }
-    Ok(g)
-}
-
 /// The graph of all tests.
 fn typed_graph(alloc: Global) -> Result<Graph, Fail>
     ensures { IfOk result (λ g. IsTyped g.graph) }
 {
-    let g = graph(alloc, GRAPH)?;
-    if check_typed(&g).is_err() {
-        return Err("an open port".into());
-    }
-    Ok(g)
+    typed(alloc, GRAPH)
 }
 
 fn rule_at(alloc: Global, g: &Graph, name: &str) -> Result<DropBuffer, Fail>
@@ -154,22 +85,6 @@ fn a_buffer_is_left_out(rt: HostRuntime) -> Result<(), Fail> {
 fn names_beside_the_node_are_others(rt: HostRuntime) -> Result<(), Fail> {
     check(&rt, [("in", "Entry"), ("out", "Fork"), ("to", "Exit")])?;
     check(&rt, [("from", "Entry"), ("in", "Buffer"), ("out", "Exit")])
-}
-
-/// Whether the one output of the first node feeds the one input of the second.
-fn feeds(g: &Graph, source: &str, target: &str) -> bool {
-    match (g.find(source.as_bytes()), g.find(target.as_bytes())) {
-        (Some(source), Some(target)) => {
-            g.wire_into(PortAt {
-                node: target,
-                port: 1,
-            }) == Some(PortAt {
-                node: source,
-                port: 1,
-            })
-        }
-        _ => false,
-    }
 }
 
 /// Whether the rule at the Fork of one output, when it is used, joins the nodes beside it.

@@ -3,3 +3,7 @@
 
 #[cfg(test)]
 mod drop_buffer;
+#[cfg(test)]
+mod graphs;
+#[cfg(test)]
+mod other_graphs;
