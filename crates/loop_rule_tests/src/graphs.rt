@@ -71,9 +71,9 @@ pub(crate) const TAGGED: &str = r#"digraph G {
   "ooo_0_tagger" -> "out" [from = "out2", to = "in1"];
 }"#;
 
-/// A loop that goes back on condition 0.
+/// A loop that goes back on condition 0. A node has the name of a new node of prefix 1.
 pub(crate) const OTHER_WAY: &str = r#"digraph G {
-  "e" [type = "Entry", out = "out1:8"];
+  "ooo_1_retag" [type = "Entry", out = "out1:8"];
   "i" [type = "Init", in = "in1:1", out = "out1:1", value = "0x1", ooo = "2"];
   "m" [type = "Mux", in = "in1?:1 in2:8 in3:8", out = "out1:8"];
   "f" [type = "Pure", in = "in1:8", out = "out1:8.1", fun = "sub:8(#0,8'1);eq:1(#1,8'0) -> #1 #2"];
@@ -83,13 +83,37 @@ pub(crate) const OTHER_WAY: &str = r#"digraph G {
   "z" [type = "Exit", in = "in1:8"];
   "i" -> "m" [from = "out1", to = "in1"];
   "b" -> "m" [from = "out2", to = "in2"];
-  "e" -> "m" [from = "out1", to = "in3"];
+  "ooo_1_retag" -> "m" [from = "out1", to = "in3"];
   "m" -> "f" [from = "out1", to = "in1"];
   "f" -> "p" [from = "out1", to = "in1"];
   "p" -> "b" [from = "out1", to = "in1"];
   "p" -> "c" [from = "out2", to = "in1"];
   "c" -> "b" [from = "out1", to = "in2"];
   "c" -> "i" [from = "out2", to = "in1"];
+  "b" -> "z" [from = "out1", to = "in1"];
+}"#;
+
+/// The same with a Buffer on the wire into the Init: no in-order loop, though it has the six nodes.
+pub(crate) const WITH_BUFFER: &str = r#"digraph G {
+  "e" [type = "Entry", out = "out1:8"];
+  "i" [type = "Init", in = "in1:1", out = "out1:1", value = "0x1", ooo = "2"];
+  "m" [type = "Mux", in = "in1?:1 in2:8 in3:8", out = "out1:8"];
+  "f" [type = "Pure", in = "in1:8", out = "out1:8.1", fun = "sub:8(#0,8'1);eq:1(#1,8'0) -> #1 #2"];
+  "p" [type = "Split", in = "in1:8.1", out = "out1:8 out2:1"];
+  "c" [type = "Fork", in = "in1:1", out = "out1:1 out2:1"];
+  "b" [type = "Branch", in = "in1:8 in2?:1", out = "out1+:8 out2-:8"];
+  "w" [type = "Buffer", in = "in1:1", out = "out1:1"];
+  "z" [type = "Exit", in = "in1:8"];
+  "i" -> "m" [from = "out1", to = "in1"];
+  "b" -> "m" [from = "out2", to = "in2"];
+  "e" -> "m" [from = "out1", to = "in3"];
+  "m" -> "f" [from = "out1", to = "in1"];
+  "f" -> "p" [from = "out1", to = "in1"];
+  "p" -> "b" [from = "out1", to = "in1"];
+  "p" -> "c" [from = "out2", to = "in1"];
+  "c" -> "b" [from = "out1", to = "in2"];
+  "c" -> "w" [from = "out2", to = "in1"];
+  "w" -> "i" [from = "out1", to = "in1"];
   "b" -> "z" [from = "out1", to = "in1"];
 }"#;
 

@@ -2,7 +2,7 @@
 ghost use Rattle.std.specs.Prelude.{IfOk};
 ghost use Rattle.components.specs.NamedGraph.{IsTyped};
 
-use crate::graphs::{GATHERED, OTHER_WAY, TAGGED, graph};
+use crate::graphs::{GATHERED, OTHER_WAY, TAGGED, WITH_BUFFER, graph};
 use components::Kind;
 use graph_core::{Graph, PortAt, same_graph};
 use loop_rule::{AtFault, TagLoop};
@@ -32,11 +32,22 @@ fn rule_at(alloc: Global, g: &Graph, tags: u16, words: &[&str]) -> Result<TagLoo
     )
 }
 
+/// Whether the graph of the text has no instance there, with two tags and new names of this prefix.
+fn is_refused(alloc: Global, text: &str, prefix: u64) -> Result<bool, Fail> {
+    is_no_instance(alloc, text, prefix, 2, &IN_ORDER)
+}
+
 /// Whether the graph of the text has no instance there.
-fn is_refused(alloc: Global, text: &str, tags: u16, words: &[&str]) -> Result<bool, Fail> {
+fn is_no_instance(
+    alloc: Global,
+    text: &str,
+    prefix: u64,
+    tags: u16,
+    words: &[&str],
+) -> Result<bool, Fail> {
     let g = graph(alloc, text)?;
     let names = names(alloc, words)?;
-    let refused = TagLoop::at(alloc, &g, 0, tags, names.as_slice()).err();
+    let refused = TagLoop::at(alloc, &g, prefix, tags, names.as_slice()).err();
     Ok(refused == Some(AtFault::NoInstance))
 }
 
@@ -110,7 +121,15 @@ fn other_names_are_no_instance(rt: HostRuntime) -> Result<(), Fail> {
         (4, &["i", "m", "f", "p", "c", "c"]),
     ];
     for (tags, words) in rows {
-        assert!(rt; is_refused(rt.alloc(), GATHERED, tags, words)?);
+        assert!(rt; is_no_instance(rt.alloc(), GATHERED, 0, tags, words)?);
     }
+    Ok(())
+}
+
+#[test]
+fn a_name_that_is_taken_and_a_wire_that_is_not_there(rt: HostRuntime) -> Result<(), Fail> {
+    assert!(rt; is_refused(rt.alloc(), OTHER_WAY, 1)?);
+    assert!(rt; !is_refused(rt.alloc(), OTHER_WAY, 2)?);
+    assert!(rt; is_refused(rt.alloc(), WITH_BUFFER, 0)?);
     Ok(())
 }
