@@ -7,5 +7,6 @@ pub mod Places
 pub mod PlanMoves
 pub mod PlanFamilies
 pub mod FireEach
+pub mod PlanDrains
 pub mod Tuples
 pub mod NoThrough

@@ -1,4 +1,5 @@
 pub mod Polarity
+pub mod LoopResult
 pub mod Reached
 pub mod BackPath
 pub mod Feeders

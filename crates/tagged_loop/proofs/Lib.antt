@@ -16,3 +16,9 @@ mod TagsApart
 mod RingAnywhere
 mod TagOverlap
 mod PinOverlap
+mod LoopResults
+mod LoopDrains
+mod LoopMoves
+mod LoopFlow
+mod TagDrains
+mod DrainLaws

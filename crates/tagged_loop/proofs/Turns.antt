@@ -1,5 +1,5 @@
 -- The turns of a loop, and what it ends with.
-use Rattle.std.proofs.Common.{◌≡◌, ℕ, Bool, [], ◌∷◌}
+use Rattle.std.proofs.Common.{◌≡◌, ℕ, Bool, List, [], ◌∷◌}
 use Rattle.fun_expr.specs.Function.{Function, fun_value}
 use Rattle.circuits.specs.PortTokens.{Token}
 use Rattle.loop_laws.specs.Polarity.{back_bit, exit_bit}
@@ -26,3 +26,10 @@ condition fun v = last_number (fun_value fun v)
 pub data Loops (fun : Function) (goes_back : Bool) (y : Token) : Token → Type 0 where
   ends : {v : Token} → condition fun v ≡ exit_bit goes_back → next fun v ≡ y → Loops fun goes_back y v
   turns : {v : Token} → condition fun v ≡ back_bit goes_back → Loops fun goes_back y (next fun v) → Loops fun goes_back y v
+
+-- begun with each of these in turn, the loop ends with each of those
+abbrev pub LoopsAll : Function → Bool → List Token → List Token → Type 0
+LoopsAll f d [] [] = Unit {0}
+LoopsAll f d [] (y ∷ ys) = ⊥
+LoopsAll f d (x ∷ xs) [] = ⊥
+LoopsAll f d (x ∷ xs) (y ∷ ys) = Loops f d y x × LoopsAll f d xs ys

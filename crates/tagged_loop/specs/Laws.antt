@@ -1,15 +1,20 @@
 -- What is proved of the two loops, and of the ring of a tagged one.
 use Rattle.std.specs.Prelude.{◌≡◌, ℕ, ◌≤◌, Bool, List, [], Some, map, length}
+use Rattle.std.specs.List.{AllByRecursion}
+use Rattle.port_types.specs.Token.{Fits}
 use Rattle.components.specs.declared.kind.Kind.TheVariants.{Join}
 use Rattle.components.specs.Name.{Name, port_get}
 use Rattle.components.specs.Kind.{Shape}
 use Rattle.circuits.specs.Circuit.{Circuit, Typed, circuit_of}
 use Rattle.circuits.specs.CircuitState.{CircuitState, start}
+use Rattle.circuits.specs.PortTokens.{Token}
 use Rattle.circuits.specs.Run.{Move, Run}
 use Rattle.circuits.specs.Plug.{PlugLink, plug, CanPlug}
 use Rattle.circuits.specs.Refines.{Refines}
+use Rattle.circuits.specs.Drains.{Drains}
 use Rattle.circuits.specs.Replacing.{NoneTwice}
 use Rattle.circuits.specs.ReplacedGraph.{IsRule}
+use Rattle.loop_laws.specs.LoopResult.{EachLoops}
 use Rattle.tagged_loop.specs.LoopFunction.{IsLoopFunction}
 use Rattle.tagged_loop.specs.InOrderLoop.{InOrderNode, LoopParts, entry, exit, in_order_nodes, in_order_loop}
 use Rattle.tagged_loop.specs.TaggedLoop.{TaggedNode, new_entry, tagger, merge, tag, retag, new_branch, new_exit, tagged_nodes, tagged_loop}
@@ -35,6 +40,30 @@ TaggingIsRule = (loop : LoopParts) (tags : ℕ) (old : InOrderNode → Name) (ne
 abbrev pub TaggedLoopRefines : Type 0
 TaggedLoopRefines = (loop : LoopParts) (tags : ℕ) (old : InOrderNode → Name) (new : TaggedNode → Name) → CanTag loop tags old new →
     Refines (circuit_of (tagged_loop loop tags new)) (circuit_of (in_order_loop loop old))
+
+-- Drains
+
+-- what the in-order loop drains are tuples and what its function makes of them, one after another
+abbrev pub InOrderDrainsAreLoops : Type 0
+InOrderDrainsAreLoops = (loop : LoopParts) (name : InOrderNode → Name) → IsLoopFunction loop.shape loop.fun → NoneTwice (map name in_order_nodes) →
+    (ins outs : Name → List Token) → Drains (circuit_of (in_order_loop loop name)) ins outs → EachLoops loop.fun loop.goes_back (ins (name entry)) (outs (name exit))
+
+-- and it drains all such lists
+abbrev pub LoopsAreInOrderDrains : Type 0
+LoopsAreInOrderDrains = (loop : LoopParts) (name : InOrderNode → Name) → IsLoopFunction loop.shape loop.fun → NoneTwice (map name in_order_nodes) →
+    (ins outs : Name → List Token) → AllByRecursion (Fits loop.shape) (ins (name entry)) → EachLoops loop.fun loop.goes_back (ins (name entry)) (outs (name exit)) →
+    Drains (circuit_of (in_order_loop loop name)) ins outs
+
+-- so does a tagged loop
+abbrev pub LoopsAreTaggedDrains : Type 0
+LoopsAreTaggedDrains = (loop : LoopParts) (tags : ℕ) (name : TaggedNode → Name) → IsLoopFunction loop.shape loop.fun → 1 ≤ tags → NoneTwice (map name tagged_nodes) →
+    (ins outs : Name → List Token) → AllByRecursion (Fits loop.shape) (ins (name new_entry)) → EachLoops loop.fun loop.goes_back (ins (name new_entry)) (outs (name new_exit)) →
+    Drains (circuit_of (tagged_loop loop tags name)) ins outs
+
+-- what the in-order loop drains the tagged loop drains
+abbrev pub TaggingKeepsDrains : Type 0
+TaggingKeepsDrains = (loop : LoopParts) (tags : ℕ) (old : InOrderNode → Name) (new : TaggedNode → Name) → CanTag loop tags old new →
+    (ins outs : Name → List Token) → Drains (circuit_of (in_order_loop loop old)) ins outs → Drains (circuit_of (tagged_loop loop tags new)) ins outs
 
 -- The ring
 

@@ -2,7 +2,7 @@
 //!
 //! The definitions, in `specs/`:
 //!
-//! - `Polarity`: on which condition a loop goes back. `Turns`: what the function of a loop makes of a tuple, and what it ends with.
+//! - `LoopFunction`: the functions that a loop may have.
 //! - `InOrderLoop`, `TaggedLoop`: the graphs of the two loops between an Entry and an Exit, as a table of kinds and a table of wires.
 //! - `Ring`: the five nodes of a tagged loop that tuples with tags go through, in any circuit; that their tags are apart, and that
 //!   tuples overlap.
@@ -12,7 +12,7 @@
 //! `docs/MODEL.md` tells why results leave a tagged loop in order.
 #![tactic(auto)]
 
-ghost use Rattle.tagged_loop.specs.Laws.{JoinedRingOverlaps, PluggedHasRing, RingOverlaps, RingTagsApart, TaggedLoopHasRing, TaggedLoopRefines, TaggingIsRule};
+ghost use Rattle.tagged_loop.specs.Laws.{InOrderDrainsAreLoops, JoinedRingOverlaps, LoopsAreInOrderDrains, LoopsAreTaggedDrains, PluggedHasRing, RingOverlaps, RingTagsApart, TaggedLoopHasRing, TaggedLoopRefines, TaggingIsRule, TaggingKeepsDrains};
 
 use circuits::graph_typed_as_circuit;
 use fun_expr::fun_value_fits;
@@ -27,6 +27,22 @@ pub fn tagged_loop_refines()
     value_fits();
     fun_value_fits();
     graph_typed_as_circuit();
+}
+
+/// What the in-order loop drains are lists of tuples and of what its function loops to, one after another, and it drains all of them.
+pub fn in_order_loop_drains()
+    ensures only { InOrderDrainsAreLoops }
+    ensures all { LoopsAreInOrderDrains }
+{
+    fun_value_fits();
+}
+
+/// The tagged loop drains each list of tuples to what its function loops to, so it drains what the in-order loop drains.
+pub fn tagged_loop_drains()
+    ensures all { LoopsAreTaggedDrains }
+    ensures kept { TaggingKeepsDrains }
+{
+    fun_value_fits();
 }
 
 /// A tagged loop has a ring, and a circuit with a ring keeps it in each surrounding circuit.
