@@ -1,2 +1,3 @@
 mod MarkLists
 mod MarkedNodes
+mod Places

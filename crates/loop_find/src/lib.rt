@@ -1,4 +1,4 @@
-//! Finding loops. Today: the marks of a graph.
+//! Finding loops. Today: the marks of a graph, and what a loop and a fault are by the ids of nodes.
 //!
 //! - `marks`: the Inits that ask for tags, in byte order of their names.
 //!
@@ -8,5 +8,9 @@
 
 mod mark;
 mod named;
+mod node_set;
+mod shape;
 
+pub use loop_laws::LoopFaultKind;
 pub use mark::marks;
+pub use shape::{FindFault, Lane, LoopFault, LoopShape};
