@@ -1,0 +1,5 @@
+pub mod Order
+pub mod Part
+pub mod Passing
+pub mod SingleNodes
+pub mod Laws
