@@ -1,3 +1,7 @@
+mod KindTests
 mod MarkLists
 mod MarkedNodes
+mod Oks
 mod Places
+mod WalkSteps
+mod Walking

@@ -1,7 +1,6 @@
 -- Places in lists, and the places of the nodes of a set.
 use Rattle.std.proofs.Common.{◌≡◌, ◌≢◌, ◌⊎◌, inl, inr, ℕ, zero, suc, ◌<◌, ◌≤◌, refl, sym, ap, subst, ◌∙◌, List, [], ◌∷◌, ◌++◌, length, set, Some, None, Result, Ok, Err, OnOk, OnErr, arith}
 use Rattle.std.specs.Prelude.{slice_get}
-use Rattle.std.proofs.lemmas.Bool.{cases_eq}
 use Rattle.std.proofs.lemmas.Option.{same_Some, none-some}
 use Rattle.circuits.specs.Replacing.{In, In.head, In.tail}
 use Rattle.port_types.specs.declared.memory.NoMemory.{NoMemory}
@@ -30,6 +29,11 @@ module _ {A : Type 0} where
   got_last [] y x (suc k) e = absurd (none-some x e)
   got_last (z ∷ xs) y x zero e = inl e
   got_last (z ∷ xs) y x (suc k) e = elim (got_last xs y x k e) [ inl h ↦ inl h | inr h ↦ inr (ap suc h.0, h.1) ]
+
+  pub stands_one : (xs : List A) (k : ℕ) → k < length xs → (x : A) × (slice_get xs k ≡ Some x)
+  stands_one [] k less = absurd (omega arith)
+  stands_one (x ∷ xs) zero less = (x, refl)
+  stands_one (x ∷ xs) (suc k) less = stands_one xs k (omega arith)
 
   pub in_left : (x : A) (xs ys : List A) → In x xs → In x (xs ++ ys)
   in_left x [] ys i = elim i [ ]
@@ -89,15 +93,7 @@ has_all_below (suc n) ys all =
 
 module _ (ids : List NodeId) (places : List ℕ) (have : HavePlaces ids places) where
   pub no_more : length ids ≤ length places
-  no_more =
-      has_all_below (length ids) places (λ k less.
-      let (id, at) = within ids k less in
-      at_in places (index_of id) k (have k id at))
-    where
-      within : (xs : List NodeId) (k : ℕ) → k < length xs → (x : NodeId) × (slice_get xs k ≡ Some x)
-      within [] k less = absurd (omega arith)
-      within (x ∷ xs) zero less = (x, refl)
-      within (x ∷ xs) (suc k) less = within xs k (omega arith)
+  no_more = has_all_below (length ids) places (λ k less. let (id, at) = stands_one ids k less in at_in places (index_of id) k (have k id at))
 
   -- a node of the set stands where its place says
   pub stands : (id : NodeId) (place : ℕ) → slice_get places (index_of id) ≡ Some place → In id ids → slice_get ids place ≡ Some id

@@ -1,3 +1,4 @@
 pub mod Marks
 pub mod NodeSets
 pub mod Shapes
+pub mod Walks

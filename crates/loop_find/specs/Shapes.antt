@@ -1,5 +1,5 @@
 -- The loop by names that a loop by ids stands for.
-use Rattle.std.specs.Prelude.{◌≡◌, ℕ, ◌≤◌, List, [], map, Bool, nat_eq, Option, Some, length}
+use Rattle.std.specs.Prelude.{◌≡◌, ◌≤◌, [], map, nat_eq, Option, Some}
 use Rattle.components.specs.declared.kind.Kind.{Kind}
 use Rattle.components.specs.declared.kind.Kind.TheVariants.{Mux}
 use Rattle.components.specs.Kind.{Shape}

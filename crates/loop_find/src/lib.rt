@@ -10,6 +10,7 @@ mod mark;
 mod named;
 mod node_set;
 mod shape;
+mod walk;
 
 pub use loop_laws::LoopFaultKind;
 pub use mark::marks;

@@ -1,0 +1,19 @@
+-- What holds on the way: of the outputs of a node, and of a walk.
+use Rattle.std.proofs.Common.{◌≡◌, ℕ, ◌<◌, ◌≤◌, List, Some}
+use Rattle.std.specs.Prelude.{slice_get}
+use Rattle.circuits.specs.Replacing.{In}
+use Rattle.graph_core.specs.declared.place.NodeId.{NodeId}
+use Rattle.graph_core.specs.GraphValue.{GraphValue, name_by, port_of}
+use Rattle.loop_find.specs.declared.walk.Way.{Way}
+use Rattle.loop_find.specs.Walks.{Follows, Grows, HasBehind, HasFollowers, Picks, WalkedTo}
+
+-- what follows the outputs of a node below this port is there
+pub record Entering (g : GraphValue) (way : Way) (id : NodeId) (before after : List NodeId) (port : ℕ) : Type 0 where
+  pub grows : Grows g (Follows g way (name_by g.ids id)) before after
+  pub behind : (k : ℕ) → 1 ≤ k → k < port → HasBehind g way (port_of g (record { node = id; port = k })) after
+
+-- walks from the first nodes have come to all that are there, and what follows those before this place is there
+pub record Underway (g : GraphValue) (way : Way) (from ids : List NodeId) (next : ℕ) : Type 0 where
+  pub started : (id : NodeId) → In id from → In id ids
+  pub reached : (id : NodeId) → In id ids → Picks g (WalkedTo g way from) id
+  pub closed : (k : ℕ) (id : NodeId) → k < next → slice_get ids k ≡ Some id → HasFollowers g way (name_by g.ids id) ids
