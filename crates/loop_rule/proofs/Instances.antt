@@ -21,7 +21,7 @@ use Rattle.tagged_loop.specs.Laws.{TaggingIsRule, TaggedLoopRefines}
 use Rattle.subst_engine.specs.Rule.{NamedRule, IsSoundRule}
 use Rattle.loop_rule.specs.Listed.{IsNodeOf, ReadsLoop, AreListed, CanMakeSides}
 use Rattle.loop_rule.specs.TagLoop.{nth, old_name, new_name, tag_loop, IsInstance, IsTagLoop}
-use Rattle.loop_rule.proofs.DrawnMade.{node_at, wire_fed}
+use Rattle.drawn_rules.proofs.DrawnMade.{node_at, wire_fed}
 use Rattle.loop_rule.proofs.NamesDiffer.{old_differ}
 use Rattle.loop_rule.proofs.SidesMade.{old_in, can_tag, old_targets_differ}
 

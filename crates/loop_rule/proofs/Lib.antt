@@ -1,5 +1,3 @@
-mod NewNames
 mod NamesDiffer
-mod DrawnMade
 mod SidesMade
 mod Instances

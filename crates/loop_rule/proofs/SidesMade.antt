@@ -1,6 +1,6 @@
 -- The two graphs of the rule can be made, and are a rule.
-use Rattle.std.proofs.Common.{◌≡◌, ℕ, zero, suc, ◌<◌, Bool, true, false, refl, length, map, List, [], ◌∷◌, arith}
-use Rattle.std.specs.List.{AllByRecursion}
+use Rattle.std.proofs.Common.{◌≡◌, ℕ, zero, suc, ◌<◌, Bool, true, false, refl, length, map, List, [], ◌∷◌, Some, arith}
+use Rattle.std.specs.List.{AllByRecursion, slice_get}
 use Rattle.components.specs.Name.{Name, IsName}
 use Rattle.circuits.specs.Replacing.{In, head, tail, NoneTwice}
 use Rattle.circuit_plans.specs.Plans.{Out}
@@ -10,11 +10,12 @@ use Rattle.tagged_loop.specs.TaggedLoop.{TaggedNode, new_entry, tagger, merge, t
 use Rattle.tagged_loop.specs.Laws.{CanTag, TaggingIsRule}
 use Rattle.subst_engine.specs.Making.{AllDiffer, CanMake}
 use Rattle.loop_rule.specs.Listed.{CanMakeSides}
-use Rattle.loop_rule.specs.Sides.{nodes_of, old_ends, new_ends}
+use Rattle.drawn_rules.specs.Sides.{nodes_of}
+use Rattle.loop_rule.specs.Sides.{old_ends, new_ends}
 use Rattle.loop_rule.specs.TagLoop.{nth, old_name, new_name}
-use Rattle.loop_rule.proofs.DrawnMade.{all_differ, can_make, ports_differ}
+use Rattle.drawn_rules.proofs.DrawnMade.{all_differ, can_make, ports_differ}
 use Rattle.loop_rule.proofs.NamesDiffer.{old_differ, new_differ}
-use Rattle.loop_rule.proofs.NewNames.{prefixed_name, entry_is_name, exit_is_name}
+use Rattle.drawn_rules.proofs.NewNames.{prefixed_name, entry_is_name, exit_is_name}
 
 pub old_in : (n : InOrderNode) → In n in_order_nodes
 old_in entry = head refl
@@ -58,20 +59,33 @@ new_place retag = 6
 new_place new_branch = 7
 new_place new_exit = 8
 
+old_stands : (n : InOrderNode) → slice_get in_order_nodes (old_place n) ≡ Some n
+old_stands entry = refl
+old_stands init = refl
+old_stands mux = refl
+old_stands pure = refl
+old_stands pair = refl
+old_stands cond = refl
+old_stands branch = refl
+old_stands exit = refl
+
+new_stands : (n : TaggedNode) → slice_get tagged_nodes (new_place n) ≡ Some n
+new_stands new_entry = refl
+new_stands tagger = refl
+new_stands merge = refl
+new_stands tag = refl
+new_stands new_pure = refl
+new_stands new_pair = refl
+new_stands retag = refl
+new_stands new_branch = refl
+new_stands new_exit = refl
+
 abbrev at_places : {N : Type 0} → (N → ℕ) → List (Out N) → List (ℕ × ℕ)
 at_places place ps = map (λ p. (place p.at, p.port)) ps
-
-old_sources : (d : Bool) → ports_differ (at_places old_place (map (λ w. w.source) (in_order_wires d))) ≡ true
-old_sources true = refl
-old_sources false = refl
 
 old_targets : (d : Bool) → ports_differ (at_places old_place (map (λ w. w.target) (in_order_wires d))) ≡ true
 old_targets true = refl
 old_targets false = refl
-
-new_sources : (d : Bool) → ports_differ (at_places new_place (map (λ w. w.source) (tagged_wires d))) ≡ true
-new_sources true = refl
-new_sources false = refl
 
 new_targets : (d : Bool) → ports_differ (at_places new_place (map (λ w. w.target) (tagged_wires d))) ≡ true
 new_targets true = refl
@@ -111,24 +125,8 @@ module _ (law : TaggingIsRule) (prefix tags : ℕ) (names : List Name) (loop : L
   left_made =
       let tag = can_tag prefix tags names loop h in
       can_make (in_order loop) (old_name names) old_in tag.old_names old_allowed (law loop tags (old_name names) (new_name prefix names) tag).old_typed
-      (all_differ (old_name names) in_order_nodes old_in tag.old_names old_place (map (λ w. w.source) (in_order_wires loop.goes_back)) (old_sources loop.goes_back))
       (all_differ (old_name names) in_order_nodes old_in tag.old_names old_place (map (λ w. w.target) (in_order_wires loop.goes_back)) (old_targets loop.goes_back))
-      (old_ends loop.goes_back) refl (
-        (omega arith, omega arith),
-        (
-          (omega arith, omega arith),
-          (
-            (omega arith, omega arith),
-            (
-              (omega arith, omega arith),
-              (
-                (omega arith, omega arith),
-                ((omega arith, omega arith), ((omega arith, omega arith), ((omega arith, omega arith), ((omega arith, omega arith), ((omega arith, omega arith), tt))))),
-              ),
-            ),
-          ),
-        ),
-      )
+      old_place old_stands
 
   new_allowed : (n : TaggedNode) → IsName (new_name prefix names n)
   new_allowed new_entry = let six = h.six in entry_is_name names (omega (arith, six))
@@ -145,27 +143,8 @@ module _ (law : TaggingIsRule) (prefix tags : ℕ) (names : List Name) (loop : L
   right_made =
       let tag = can_tag prefix tags names loop h in
       can_make (tagged_drawing loop tags) (new_name prefix names) new_in tag.new_names new_allowed (law loop tags (old_name names) (new_name prefix names) tag).new_typed
-      (all_differ (new_name prefix names) tagged_nodes new_in tag.new_names new_place (map (λ w. w.source) (tagged_wires loop.goes_back)) (new_sources loop.goes_back))
       (all_differ (new_name prefix names) tagged_nodes new_in tag.new_names new_place (map (λ w. w.target) (tagged_wires loop.goes_back)) (new_targets loop.goes_back))
-      (new_ends loop.goes_back) refl (
-        (omega arith, omega arith),
-        (
-          (omega arith, omega arith),
-          (
-            (omega arith, omega arith),
-            (
-              (omega arith, omega arith),
-              (
-                (omega arith, omega arith),
-                (
-                  (omega arith, omega arith),
-                  ((omega arith, omega arith), ((omega arith, omega arith), ((omega arith, omega arith), ((omega arith, omega arith), ((omega arith, omega arith), ((omega arith, omega arith), tt)))))),
-                ),
-              ),
-            ),
-          ),
-        ),
-      )
+      new_place new_stands
 
 -- the wires of the in-order loop enter different inputs
 pub old_targets_differ : (names : List Name) (loop : LoopParts) → NoneTwice (map (old_name names) in_order_nodes) → AllDiffer (map (port_named (old_name names)) (map (λ w. w.target) (in_order_wires loop.goes_back)))

@@ -1,4 +1,3 @@
-pub mod EndNames
 pub mod TagLoop
 pub mod Listed
 pub mod Sides

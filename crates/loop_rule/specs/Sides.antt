@@ -1,16 +1,8 @@
--- The nodes and the wires of the two graphs as lists, where an end of a wire tells its node by its place.
-use Rattle.std.specs.Prelude.{Bool, List, [], ◌∷◌, map}
-use Rattle.components.specs.declared.node.Node.{Node}
-use Rattle.components.specs.Name.{Name}
+-- The wires of the two graphs as lists, where an end of a wire tells its node by its place.
+use Rattle.std.specs.Prelude.{Bool, List, [], ◌∷◌}
 use Rattle.graph_core.specs.declared.exchange.End.{End}
 use Rattle.graph_core.specs.declared.exchange.End.TheVariants.{Fresh}
-use Rattle.circuit_plans.specs.Drawing.{Drawing}
 use Rattle.loop_laws.specs.Polarity.{back_out, exit_out, back_in, fresh_in}
-use Rattle.subst_engine.specs.Making.{bare_node}
-
--- the nodes of a drawing, without kept attributes
-abbrev pub nodes_of : {N : Type 0} → Drawing N → (N → Name) → List Node
-nodes_of d name = map (λ n. bare_node (name n) (d.kind n)) d.nodes
 
 -- entry, init, mux, pure, pair, cond, branch, exit
 abbrev pub old_ends : Bool → List (End × End)

@@ -9,7 +9,7 @@ use Rattle.tagged_loop.specs.TaggedLoop.{TaggedNode, new_entry, tagger, merge, t
 use Rattle.subst_engine.specs.declared.word.RuleWord.TheVariants.{TagLoop}
 use Rattle.subst_engine.specs.Prefix.{prefix_text}
 use Rattle.subst_engine.specs.Rule.{NamedRule}
-use Rattle.loop_rule.specs.EndNames.{entry_name, exit_name}
+use Rattle.drawn_rules.specs.EndNames.{entry_name, exit_name}
 
 -- the name at a place of the list
 abbrev pub nth : List Name → ℕ → Name

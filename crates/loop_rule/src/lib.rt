@@ -7,7 +7,6 @@
 //! `docs/RULES.md` draws the rule, and `docs/MODEL.md` tells why results leave in order.
 #![tactic(auto)]
 
-mod end_names;
 mod listed;
 mod sides;
 mod tag_loop;

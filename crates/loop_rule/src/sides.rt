@@ -10,14 +10,15 @@ ghost use Rattle.tagged_loop.specs.InOrderLoop.{LoopParts, in_order, in_order_lo
 ghost use Rattle.loop_laws.specs.Polarity.{back_in, back_out, exit_bit, exit_out, fresh_in};
 ghost use Rattle.tagged_loop.specs.TaggedLoop.{tagged_drawing, tagged_loop};
 ghost use Rattle.tagged_loop.specs.LoopFunction.{with_bit};
-ghost use Rattle.loop_rule.specs.EndNames.{entry_name, exit_name};
+ghost use Rattle.drawn_rules.specs.EndNames.{entry_name, exit_name};
 ghost use Rattle.loop_rule.specs.Listed.{CanMakeSides};
-ghost use Rattle.loop_rule.specs.Sides.{new_ends, nodes_of, old_ends};
+ghost use Rattle.drawn_rules.specs.Sides.{nodes_of};
+ghost use Rattle.loop_rule.specs.Sides.{new_ends, old_ends};
 ghost use Rattle.loop_rule.specs.TagLoop.{new_name, nth, old_name};
 
-use crate::end_names::{entry_name, exit_name};
 use crate::listed::Parts;
 use components::{Kind, Node};
+use drawn_rules::{entry_name, exit_name, new_name};
 use fun_expr::Fun;
 use graph_core::{End, Graph};
 use port_types::{Items, NoMemory, Shape, Text, tag_width};
@@ -360,13 +361,6 @@ fn tagged_branch(alloc: Global, tags: u16, shape: &Shape) -> Result<Kind, NoMemo
     ensures { IfOk result (λ kind. kind ≡ Branch (tagged tags shape.now)) }
 {
     Ok(Kind::Branch(tagged_shape(alloc, tags, shape)?))
-}
-
-/// The prefix and a word.
-fn new_name(alloc: Global, prefix: u64, word: &str) -> Result<Text, NoMemory>
-    ensures { IfOk result (λ name. name ≡ prefix_text prefix ++ word.now) }
-{
-    Ok(Text::from_string(format!(in alloc; "ooo_{prefix}_{word}")?))
 }
 
 /// A tuple and a bit.

@@ -1,7 +1,7 @@
 use Rattle.std.proofs.Common.{sym, subst, ◌∙◌}
 use Rattle.subst_engine.specs.Making.{CanMake}
 use Rattle.tagged_loop.specs.InOrderLoop.{LoopParts, in_order}
-use Rattle.loop_rule.specs.Sides.{nodes_of}
+use Rattle.drawn_rules.specs.Sides.{nodes_of}
 use Rattle.loop_rule.specs.TagLoop.{old_name}
 use Rattle.loop_rule.proofs.SidesMade.{left_made}
 use Rattle.loop_rule.proofs.sides.left_graph.Goals as goal

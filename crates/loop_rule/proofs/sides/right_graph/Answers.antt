@@ -2,7 +2,7 @@ use Rattle.std.proofs.Common.{sym, subst, ◌∙◌}
 use Rattle.subst_engine.specs.Making.{CanMake}
 use Rattle.tagged_loop.specs.InOrderLoop.{LoopParts}
 use Rattle.tagged_loop.specs.TaggedLoop.{tagged_drawing}
-use Rattle.loop_rule.specs.Sides.{nodes_of}
+use Rattle.drawn_rules.specs.Sides.{nodes_of}
 use Rattle.loop_rule.specs.TagLoop.{new_name}
 use Rattle.loop_rule.proofs.SidesMade.{right_made}
 use Rattle.loop_rule.proofs.sides.right_graph.Goals as goal

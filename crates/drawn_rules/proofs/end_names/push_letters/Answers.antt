@@ -2,8 +2,8 @@ use Rattle.std.proofs.Common.{◌≡◌, ◌<◌, ◌+◌, ℕ, suc, sym, ap, �
 use Rattle.std.proofs.Math.Seq.{take-suc}
 use Rattle.std.proofs.lemmas.List.{length-take-le}
 use Rattle.components.specs.Name.{Name}
-use Rattle.loop_rule.specs.EndNames.{other_letter, letters_from}
-use Rattle.loop_rule.proofs.end_names.push_letters.Goals as goal
+use Rattle.drawn_rules.specs.EndNames.{other_letter, letters_from}
+use Rattle.drawn_rules.proofs.end_names.push_letters.Goals as goal
 
 letters_append : (from : ℕ) (names : List Name) (name : Name) → letters_from from (names ++ name ∷ []) ≡ letters_from from names ++ other_letter name (from + length names) ∷ []
 letters_append from [] name = let e : from ≡ from + 0 = omega arith in ap (λ z. other_letter name z ∷ []) e

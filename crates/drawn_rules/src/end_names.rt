@@ -1,19 +1,19 @@
 //! Names for the Entry and the Exit of a rule, which none of its listed nodes has.
 ghost use Rattle.std.specs.Prelude.{◌≡◌, ◌<◌, ◌^◌, ◌++◌, ◌∷◌, [], length, OnOk, IfOk, string_bytes};
-ghost use Rattle.loop_rule.specs.EndNames.{entry_name, exit_name, letters_from, other_letter};
+ghost use Rattle.drawn_rules.specs.EndNames.{entry_name, exit_name, letters_from, other_letter};
 
 use port_types::{NoMemory, Text};
 use std::alloc::Global;
 
 /// The name of the Entry. The only error is want of memory.
-pub(crate) fn entry_name(alloc: Global, names: &[Text]) -> Result<Text, NoMemory>
+pub fn entry_name(alloc: Global, names: &[Text]) -> Result<Text, NoMemory>
     ensures { IfOk result (λ name. name ≡ entry_name names.now) }
 {
     with_letters(alloc, "e", names)
 }
 
 /// The name of the Exit. The only error is want of memory.
-pub(crate) fn exit_name(alloc: Global, names: &[Text]) -> Result<Text, NoMemory>
+pub fn exit_name(alloc: Global, names: &[Text]) -> Result<Text, NoMemory>
     ensures { IfOk result (λ name. name ≡ exit_name names.now) }
 {
     with_letters(alloc, "x", names)

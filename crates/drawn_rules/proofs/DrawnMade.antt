@@ -1,7 +1,10 @@
 -- A typed graph that is drawn can be made of its nodes and wires.
 use Rattle.std.proofs.Common.{◌≡◌, ◌≢◌, ℕ, Bool, true, not, ◌&&◌, ◌==◌, refl, sym, ap, subst, ◌∙◌, List, [], ◌∷◌, Some, map, true≢false, arith}
 use Rattle.std.specs.FinMap as finite
-use Rattle.std.specs.List.{AllByRecursion}
+use Rattle.std.specs.List.{AllByRecursion, slice_get}
+use Rattle.std.specs.Prelude.{◌<◌, length, unwrap_or}
+use Rattle.std.specs.Option.{option_map}
+use Rattle.std.proofs.lemmas.Option.{slice_get-map, slice_get_within}
 use Rattle.std.proofs.lemmas.Bool.{and_parts, and_from, eq-eqb}
 use Rattle.std.proofs.lemmas.List.Elements.{All-nil}
 use Rattle.components.specs.declared.node.Node.{Node}
@@ -10,7 +13,7 @@ use Rattle.components.specs.Node.{NodeOk}
 use Rattle.components.specs.NamedGraph.{NamedGraph, IsTyped, IsWire, no_graph}
 use Rattle.graph_core.specs.declared.exchange.End.{End}
 use Rattle.graph_core.specs.Exchange as exchange
-use Rattle.graph_core.specs.Exchange.{end_port, end_ports}
+use Rattle.graph_core.specs.Exchange.{fresh_name, end_port, end_ports}
 use Rattle.graph_core.specs.GraphValue.{no_nodes}
 use Rattle.circuits.specs.BufferRule.{bare}
 use Rattle.circuits.specs.Replacing.{In, head, tail, NoneTwice}
@@ -19,7 +22,8 @@ use Rattle.circuit_plans.specs.Drawing.{DrawnWire, Drawing, port_named, with_nod
 use Rattle.circuit_plans.proofs.Namings.{mapped_in, one_node}
 use Rattle.circuit_plans.proofs.Drawn.{Listed, Agree, node_comes, wires_keep_nodes, wire_comes}
 use Rattle.subst_engine.specs.Making.{bare_node, rule_graph, IsListed, AllDiffer, CanMake}
-use Rattle.loop_rule.specs.Sides.{nodes_of}
+use Rattle.drawn_rules.specs.Sides.{nodes_of, end_at, ends_of}
+use Rattle.drawn_rules.proofs.Places.{Rises, rises_differ, rises_mapped}
 
 abbrev pub ports_of : {N : Type 0} → (N → Name) → List (DrawnWire N) → List (Port × Port)
 ports_of name wires = map (λ w. (port_named name w.source, port_named name w.target)) wires
@@ -72,6 +76,27 @@ module _ {N : Type 0} (name : N → Name) (all : List N) (has : (n : N) → In n
   all_differ (p ∷ ps) test =
       let parts = and_parts (none_at (placed p) (map placed ps)) (ports_differ (map placed ps)) test in (none_differ p ps parts.0, all_differ ps parts.1)
 
+-- and by a rank by which they rise
+
+module _ {N : Type 0} (name : N → Name) (all : List N) (has : (n : N) → In n all) (once : NoneTwice (map name all)) where
+  ports_apart : (p : Out N) (ps : List (Out N)) → AllByRecursion (λ q. p ≢ q) ps → AllByRecursion (λ y. port_named name p ≢ y) (map (port_named name) ps)
+  ports_apart p [] h = tt
+  ports_apart p (q ∷ qs) h = (
+    (λ e.
+        let node : p.at ≡ q.at = one_node name all once p.at q.at (has p.at) (has q.at) (ap (λ (z : Port). z.node) e) in
+        h.0 (λ i. record { at = node i; port = ap (λ (z : Port). z.port) e i })),
+    ports_apart p qs h.1,
+  )
+
+  pub named_differ : (ps : List (Out N)) → AllDiffer ps → AllDiffer (map (port_named name) ps)
+  named_differ [] h = tt
+  named_differ (p ∷ ps) h = (ports_apart p ps h.0, named_differ ps h.1)
+
+  -- wires whose targets rise enter different inputs
+  pub rising_targets : (rank : Out N → ℕ) (low high : ℕ) (wires : List (DrawnWire N)) → Rises (λ w. rank w.target) low wires high → AllDiffer (map (port_named name) (map (λ w. w.target) wires))
+  rising_targets rank low high wires h =
+      named_differ (map (λ (w : DrawnWire N). w.target) wires) (rises_differ rank low high (map (λ (w : DrawnWire N). w.target) wires) (rises_mapped (λ (w : DrawnWire N). w.target) rank low high wires h))
+
 -- What is made of a drawing
 
 module _ {N : Type 0} (d : Drawing N) (name : N → Name) (has : (n : N) → In n d.nodes) (once : NoneTwice (map name d.nodes)) where
@@ -120,7 +145,7 @@ module _ {N : Type 0} (d : Drawing N) (name : N → Name) (has : (n : N) → In 
   wire_fed targets w i = wire_comes (with_nodes no_graph (map listed d.nodes)) wires (port_named name w.target) (port_named name w.source) (agree w d.wires targets i) (mapped_in named_wire w d.wires i)
 
 module _ {N : Type 0} (d : Drawing N) (name : N → Name) (has : (n : N) → In n d.nodes) (once : NoneTwice (map name d.nodes)) (allowed : (n : N) → IsName (name n)) (typed : IsTyped (drawn d name))
-    (sources : AllDiffer (map (port_named name) (map (λ w. w.source) d.wires))) (targets : AllDiffer (map (port_named name) (map (λ w. w.target) d.wires))) where
+    (targets : AllDiffer (map (port_named name) (map (λ w. w.target) d.wires))) where
   node_ok : (n : N) → NodeOk (bare_node (name n) (d.kind n))
   node_ok n =
       record {
@@ -171,18 +196,57 @@ module _ {N : Type 0} (d : Drawing N) (name : N → Name) (has : (n : N) → In 
       each n [] h = tt
       each n (k ∷ rest) h = (h.0, each n rest h.1)
 
-  module _ (ends : List (End × End)) (are : map (end_ports no_nodes (nodes_of d name)) ends ≡ ports_of name d.wires) where
+  -- no two wires leave one output, since none enter one input
+  sources_apart : (w : DrawnWire N) (ws : List (DrawnWire N)) → In w d.wires → ((v : DrawnWire N) → In v ws → In v d.wires) →
+      AllByRecursion (λ y. port_named name w.target ≢ y) (map (port_named name) (map (λ v. v.target) ws)) → AllByRecursion (λ y. port_named name w.source ≢ y) (map (port_named name) (map (λ v. v.source) ws))
+  sources_apart w [] i within h = tt
+  sources_apart w (v ∷ ws) i within h = (
+    (λ e. h.0 (typed.once (port_named name w.target) (port_named name v.target) (port_named name w.source)
+        (wire_fed d name has once targets w i) (wire_fed d name has once targets v (within v (head refl)) ∙ ap Some (sym e)))),
+    sources_apart w ws i (λ z j. within z (tail j)) h.1,
+  )
+
+  sources_differ : (ws : List (DrawnWire N)) → ((v : DrawnWire N) → In v ws → In v d.wires) → AllDiffer (map (port_named name) (map (λ v. v.target) ws)) → AllDiffer (map (port_named name) (map (λ v. v.source) ws))
+  sources_differ [] within h = tt
+  sources_differ (w ∷ ws) within h = (sources_apart w ws (within w (head refl)) (λ z j. within z (tail j)) h.0, sources_differ ws (λ z j. within z (tail j)) h.1)
+
+  -- where each node has its place in the list
+  module _ (place : N → ℕ) (stands : (n : N) → slice_get d.nodes (place n) ≡ Some n) where
+    abbrev ends : List (End × End)
+    ends = ends_of d place
+
     abbrev at_ends : End × End → Port × Port
     at_ends = end_ports no_nodes (nodes_of d name)
 
-    pub can_make : AllByRecursion (λ wire. IsListed (nodes_of d name) wire.0 × IsListed (nodes_of d name) wire.1) ends → CanMake (nodes_of d name) ends
-    can_make there =
+    named_at : (n : N) → fresh_name (nodes_of d name) (place n) ≡ name n
+    named_at n =
+        ap (λ o. unwrap_or (option_map (λ (node : Node). node.name) o) []) (slice_get-map (λ k. bare_node (name k) (d.kind k)) d.nodes (place n) ∙ ap (option_map (λ k. bare_node (name k) (d.kind k))) (stands n))
+
+    port_at : (p : Out N) → end_port no_nodes (nodes_of d name) (end_at place p) ≡ port_named name p
+    port_at p = λ i. record { node = named_at p.at i; port = p.port }
+
+    are_at : (ws : List (DrawnWire N)) → map at_ends (map (λ w. (end_at place w.source, end_at place w.target)) ws) ≡ ports_of name ws
+    are_at [] = refl
+    are_at (w ∷ ws) = λ i. (port_at w.source i, port_at w.target i) ∷ are_at ws i
+
+    are : map at_ends ends ≡ ports_of name d.wires
+    are = are_at d.wires
+
+    place_within : (n : N) → place n < length (nodes_of d name)
+    place_within n = slice_get_within (nodes_of d name) (place n) (bare_node (name n) (d.kind n)) (slice_get-map (λ k. bare_node (name k) (d.kind k)) d.nodes (place n) ∙ ap (option_map (λ k. bare_node (name k) (d.kind k))) (stands n))
+
+    listed_at : (ws : List (DrawnWire N)) → AllByRecursion (λ (wire : End × End). IsListed (nodes_of d name) wire.0 × IsListed (nodes_of d name) wire.1) (map (λ w. (end_at place w.source, end_at place w.target)) ws)
+    listed_at [] = tt
+    listed_at (w ∷ ws) = ((place_within w.source.at, place_within w.target.at), listed_at ws)
+
+    pub can_make : CanMake (nodes_of d name) ends
+    can_make =
         record {
           are_ok = nodes_ok d.nodes;
           names = differ_named d.nodes once;
-          ends = there;
+          ends = listed_at d.wires;
           fit = each_mapped at_ends Fits ends (subst (AllByRecursion Fits) (sym are) (fit_each d.wires (λ w i. i)));
-          outputs = subst AllDiffer (sym (sym (map_twice at_ends fst ends) ∙ ap (map fst) are ∙ map_twice (named_wire d name has once) fst d.wires ∙ sym (map_twice (λ (w : DrawnWire N). w.source) (port_named name) d.wires))) sources;
+          outputs = subst AllDiffer (sym (sym (map_twice at_ends fst ends) ∙ ap (map fst) are ∙ map_twice (named_wire d name has once) fst d.wires ∙ sym (map_twice (λ (w : DrawnWire N). w.source) (port_named name) d.wires))) (sources_differ d.wires (λ w i. i) targets);
           inputs = subst AllDiffer (sym (sym (map_twice at_ends snd ends) ∙ ap (map snd) are ∙ map_twice (named_wire d name has once) snd d.wires ∙ sym (map_twice (λ (w : DrawnWire N). w.target) (port_named name) d.wires))) targets;
         }
 

@@ -12,10 +12,10 @@ use Rattle.std.proofs.lemmas.Str.Ascii.{IsAscii-from_all}
 use Rattle.std.proofs.lemmas.Str.Parse.{digit_from_value}
 use Rattle.components.specs.Name.{Name, IsNameByte, IsName}
 use Rattle.subst_engine.specs.Prefix.{prefix_text}
-use Rattle.loop_rule.specs.EndNames.{other_letter, letters_from, entry_name, exit_name}
+use Rattle.drawn_rules.specs.EndNames.{other_letter, letters_from, entry_name, exit_name}
 
 -- a digit, a `_` or a small letter
-abbrev is_word_byte : ℕ → Bool
+abbrev pub is_word_byte : ℕ → Bool
 is_word_byte c = (nat_le 48 c && nat_le c 57) || (nat_le 95 c && nat_le c 122)
 
 record WordByte (c : ℕ) : Type 0 where
@@ -51,7 +51,7 @@ digits_pass (c ∷ cs) h =
     let digit : (nat_le 48 c && nat_le c 57) ≡ true = and_from (nat_le 48 c) (nat_le c 57) (le-leb 48 c in_range.0) (le-leb c 57 in_range.1) in
     and_from (is_word_byte c) (list_all is_word_byte cs) (or_left (nat_le 48 c && nat_le c 57) (nat_le 95 c && nat_le c 122) digit) (digits_pass cs h.1)
 
-decimal_pass : (number : ℕ) → number < 2 ^ 64 → list_all is_word_byte (decimal number) ≡ true
+pub decimal_pass : (number : ℕ) → number < 2 ^ 64 → list_all is_word_byte (decimal number) ≡ true
 decimal_pass number small = digits_pass (decimal number) (decimal_is_IsNumeral number small).0.1
 
 prefix_pass : (number : ℕ) → number < 2 ^ 64 → list_all is_word_byte (prefix_text number) ≡ true
