@@ -1,0 +1,6 @@
+mod Named
+mod Queues
+mod Changing
+mod Stepping
+mod EndSteps
+mod Started

@@ -1,0 +1,5 @@
+pub mod Place
+pub mod GraphState
+pub mod Ends
+pub mod Starting
+pub mod Laws
