@@ -1,12 +1,12 @@
-mod NodeKinds
-mod Constants
-mod Order
-mod BackPaths
-mod Closed
-mod Ascending
-mod OneLoop
-mod Apart
-mod ShareNone
-mod Counting
-mod Faultless
-mod OneFault
+pub mod NodeKinds
+pub mod Constants
+pub mod Order
+pub mod BackPaths
+pub mod Closed
+pub mod Ascending
+pub mod OneLoop
+pub mod Apart
+pub mod ShareNone
+pub mod Counting
+pub mod Faultless
+pub mod OneFault
