@@ -16,3 +16,12 @@ mod GatheredLoop
 mod GatheredTurn
 mod LoopNames
 mod AllGathered
+mod LoopDrops
+mod TaggedDropped
+mod LoopCombines
+mod LoopGathers
+mod ChainNames
+mod GatherChain
+mod EndNames
+mod TagChain
+mod GatheredDropped

@@ -1,5 +1,5 @@
 -- Small lemmas on lists of names, paths and constant nodes.
-use Rattle.std.proofs.Common.{◌≡◌, ◌⊎◌, inl, inr, refl, sym, ap, subst, ◌∙◌, ℕ, zero, suc, List, [], ◌∷◌, ◌++◌, Some, None}
+use Rattle.std.proofs.Common.{◌≡◌, ◌≢◌, true, false, bytes_eq, ◌⊎◌, inl, inr, refl, sym, ap, subst, ◌∙◌, ℕ, zero, suc, List, [], ◌∷◌, ◌++◌, Some, None}
 use Rattle.components.specs.Name.{Name, Port, port_get}
 use Rattle.components.specs.Kind.{Shape}
 use Rattle.circuits.specs.Circuit.{Circuit}
@@ -85,3 +85,13 @@ module _ (g : Circuit) (all : List Name) (P : Name → Type 0) (step : (n : Name
 
   pub constants_back : AreConstant g [] all → (x : Name) → In x all → P x
   constants_back o x i = constants_from [] all o (λ y j. j) (λ y k q e f. elim e [ ]) (λ y j. inr j) x i (λ e. elim e [ ])
+
+pub same_test : (a b : Name) → a ≡ b → bytes_eq a b ≡ true
+same_test a b e = elim (name_cases a b) [ inl is ↦ is.test | inr ne ↦ absurd (ne.is_not e) ]
+
+pub other_test : (a b : Name) → a ≢ b → bytes_eq a b ≡ false
+other_test a b h = elim (name_cases a b) [ inl is ↦ absurd (h is.is) | inr ne ↦ ne.test ]
+
+-- circuits with the same nodes and wires
+pub circuit_same : (c d : Circuit) → ((n : Name) → c.kind_at n ≡ d.kind_at n) → ((p : Port) → c.feeder p ≡ d.feeder p) → c ≡ d
+circuit_same c d k f = λ i. record { kind_at = λ n. k n i; feeder = λ p. f p i }

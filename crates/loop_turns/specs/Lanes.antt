@@ -59,3 +59,10 @@ with_lanes l xs = record { tags = l.tags; goes_back = l.goes_back; tree = l.tree
 -- the loops, with another at m
 abbrev pub with_loop : (Name → Loop) → Name → Loop → Name → Loop
 with_loop loops m l n = if bytes_eq n m then l else loops n
+
+-- the loop without the Buffers on its back paths
+abbrev pub without_back : Lane → Lane
+without_back x = record { mux = x.mux; branch = x.branch; back = []; shape = x.shape }
+
+abbrev pub without_backs : Loop → Loop
+without_backs l = with_lanes l (map without_back l.lanes)

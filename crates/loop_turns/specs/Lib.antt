@@ -4,3 +4,7 @@ pub mod Tagged
 pub mod Gathered
 pub mod NewNames
 pub mod Laws
+pub mod Uses
+pub mod GatherChain
+pub mod TagChain
+pub mod UseLaws
