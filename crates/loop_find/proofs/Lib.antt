@@ -3,5 +3,6 @@ mod MarkLists
 mod MarkedNodes
 mod Oks
 mod Places
+mod MarkWalks
 mod WalkSteps
 mod Walking

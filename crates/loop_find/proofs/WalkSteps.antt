@@ -5,7 +5,7 @@ use Rattle.circuits.specs.Replacing.{In}
 use Rattle.graph_core.specs.declared.place.NodeId.{NodeId}
 use Rattle.graph_core.specs.GraphValue.{GraphValue, name_by, port_of}
 use Rattle.loop_find.specs.declared.walk.Way.{Way}
-use Rattle.loop_find.specs.Walks.{Follows, Grows, HasBehind, HasFollowers, Picks, WalkedTo}
+use Rattle.loop_find.specs.Walks.{Follows, Grows, HasBehind, HasFollowers, Picks, SteppedTo, WalkedTo}
 
 -- what follows the outputs of a node below this port is there
 pub record Entering (g : GraphValue) (way : Way) (id : NodeId) (before after : List NodeId) (port : ℕ) : Type 0 where
@@ -17,3 +17,8 @@ pub record Underway (g : GraphValue) (way : Way) (from ids : List NodeId) (next 
   pub started : (id : NodeId) → In id from → In id ids
   pub reached : (id : NodeId) → In id ids → Picks g (WalkedTo g way from) id
   pub closed : (k : ℕ) (id : NodeId) → k < next → slice_get ids k ≡ Some id → HasFollowers g way (name_by g.ids id) ids
+
+-- one step from the first nodes leads to all that are there, and what follows those before this place is there
+pub record Stepping (g : GraphValue) (way : Way) (from ids : List NodeId) (next : ℕ) : Type 0 where
+  pub reached : (id : NodeId) → In id ids → Picks g (SteppedTo g way from) id
+  pub closed : (k : ℕ) (id : NodeId) → k < next → slice_get from k ≡ Some id → HasFollowers g way (name_by g.ids id) ids

@@ -14,6 +14,7 @@ use Rattle.circuits.specs.Circuit.{circuit_of, kind_of_body}
 use Rattle.circuits.specs.Replacing.{In, In.head, In.tail}
 use Rattle.circuits.specs.Root.{PassesThrough}
 use Rattle.loop_laws.specs.Reached.{port_at, IsPassed}
+use Rattle.loop_laws.specs.Faults.{IsMux, IsBranch}
 use Rattle.graph_core.specs.declared.place.NodeId.{NodeId}
 use Rattle.graph_core.specs.declared.place.PortAt.{PortAt}
 use Rattle.graph_core.specs.GraphValue.{GraphValue, Denotes, IsGraph, IsNodeAt, name_by, port_of}
@@ -22,9 +23,9 @@ use Rattle.graph_core.specs.Ids.{id_cases}
 use Rattle.loop_find.specs.declared.walk.Way.{Way}
 use Rattle.loop_find.specs.declared.walk.Way.TheVariants as way_of
 use Rattle.loop_find.specs.NodeSets.{IsPut}
-use Rattle.loop_find.specs.Walks.{AreAll, AreLive, Enters, Follows, Grows, Has, HasBehind, HasFollowers, Picks, WalkedTo, WalkedTo.begun, WalkedTo.onward, is_branch}
-use Rattle.loop_find.proofs.WalkSteps.{Entering, Underway}
-use Rattle.loop_find.proofs.KindTests.{of_kind, tell_through, tell_branch, no_branch}
+use Rattle.loop_find.specs.Walks.{AreAll, AreLive, Enters, Follows, Grows, Has, HasBehind, HasFollowers, IsSelect, Picks, SteppedTo, WalkedTo, WalkedTo.begun, WalkedTo.onward, is_branch}
+use Rattle.loop_find.proofs.WalkSteps.{Entering, Stepping, Underway}
+use Rattle.loop_find.proofs.KindTests.{of_kind, tell_through, tell_mux, tell_is_branch, tell_branch, no_branch}
 use Rattle.loop_find.proofs.Places.{in_at, at_in, got_before, in_left, in_right, in_either, stands_one}
 
 pub port_within : {A : Type 0} (xs : List A) (i : ℕ) (x : A) → port_get xs i ≡ Some x → (1 ≤ i) × (i ≤ length xs)
@@ -95,17 +96,31 @@ module _ (g : GraphValue) where
     pub source_live : (target : Port) (source : PortAt) → finite.get g.graph.feeders target ≡ Some (port_of g source) → Denotes g source.node (name_by g.ids source.node)
     source_live target source e = let w = is.graph.wires target (port_of g source) e in denoted_by g is source (port_of g source).node w.from w.is_from refl
 
-    -- whether a walk goes into a node can be told
-    pub tell_enters : (way : Way) (n : Name) → Enters g way n ⊎ ¬ (Enters g way n)
-    tell_enters way_of.Tree n = of_kind PassesThrough tell_through ((circuit_of g.graph).kind_at n)
-    tell_enters (way_of.Body mark) n =
-        elim (name_cases n (name_by g.ids mark)) [
+    -- whether an input is the select of a Mux, and whether a walk goes into the node of an input, can be told
+    pub tell_select : (p : Port) → IsSelect (circuit_of g.graph) p ⊎ ¬ (IsSelect (circuit_of g.graph) p)
+    tell_select p =
+        elim (cases_eq p.port 1) [
+          | inr apart ↦ inr (λ h. apart h.0)
+          | inl same ↦ elim (of_kind IsMux tell_mux ((circuit_of g.graph).kind_at p.node)) [ inl h ↦ inl (same, h) | inr never ↦ inr (λ h. never h.1) ]
+        ]
+
+    pub tell_enters : (way : Way) (p : Port) → Enters g way p ⊎ ¬ (Enters g way p)
+    tell_enters way_of.Tree p = of_kind PassesThrough tell_through ((circuit_of g.graph).kind_at p.node)
+    tell_enters (way_of.Body mark) p =
+        elim (name_cases p.node (name_by g.ids mark)) [
           | inl same ↦ inr (λ h. h.0 same)
-          | inr apart ↦ elim (tell_branch ((circuit_of g.graph).kind_at n)) [
+          | inr apart ↦ elim (tell_branch ((circuit_of g.graph).kind_at p.node)) [
             | inl branch ↦ inr (λ h. h.1 branch.0 branch.1)
             | inr never ↦ inl (apart, λ shape e. never (shape, e))
           ]
         ]
+    tell_enters way_of.Selects p = tell_select p
+    tell_enters way_of.Leaves p =
+        elim (of_kind PassesThrough tell_through ((circuit_of g.graph).kind_at p.node)) [
+          | inl h ↦ inr (λ no. no.0 h)
+          | inr never ↦ elim (tell_select p) [ inl h ↦ inr (λ no. no.1 h) | inr not_so ↦ inl (never, not_so) ]
+        ]
+    tell_enters way_of.Branches p = of_kind IsBranch tell_is_branch ((circuit_of g.graph).kind_at p.node)
 
     pub enters_body : (id mark : NodeId) (t : Bool) → Denotes g id (name_by g.ids id) → id ≢ mark → t ≡ is_branch ((circuit_of g.graph).kind_at (name_by g.ids id)) →
         (not t ≡ true → IsPassed (circuit_of g.graph) (name_by g.ids mark) (name_by g.ids id)) × (IsPassed (circuit_of g.graph) (name_by g.ids mark) (name_by g.ids id) → not t ≡ true)
@@ -125,11 +140,11 @@ module _ (g : GraphValue) where
     module _ (way : Way) where
       -- one output
       module _ (source target : PortAt) (fed : finite.get g.graph.feeders (port_of g target) ≡ Some (port_of g source)) (before after : List NodeId)
-          (put : Enters g way (name_by g.ids target.node) → IsPut before target.node after)
-          (left : ¬ (Enters g way (name_by g.ids target.node)) → after ≡ before) where
+          (put : Enters g way (port_of g target) → IsPut before target.node after)
+          (left : ¬ (Enters g way (port_of g target)) → after ≡ before) where
         pub entered_grows : Grows g (Follows g way (name_by g.ids source.node)) before after
         entered_grows =
-            elim (tell_enters way (name_by g.ids target.node)) [
+            elim (tell_enters way (port_of g target)) [
               | inr never ↦ grows_none (Follows g way (name_by g.ids source.node)) before after (left never)
               | inl so ↦ elim (in_cases target.node before) [
                 | inl i ↦ grows_none (Follows g way (name_by g.ids source.node)) before after ((put so).there i)
@@ -137,10 +152,10 @@ module _ (g : GraphValue) where
               ]
             ]
           where
-            follows : Enters g way (name_by g.ids target.node) → Follows g way (name_by g.ids source.node) (name_by g.ids target.node)
+            follows : Enters g way (port_of g target) → Follows g way (name_by g.ids source.node) (name_by g.ids target.node)
             follows so = record { input = target.port; source = port_of g source; leaves = refl; fed = fed; enters = so }
 
-            one : Enters g way (name_by g.ids target.node) → (id : NodeId) → In id (target.node ∷ []) → Picks g (Follows g way (name_by g.ids source.node)) id
+            one : Enters g way (port_of g target) → (id : NodeId) → In id (target.node ∷ []) → Picks g (Follows g way (name_by g.ids source.node)) id
             one so id (head e) = subst (Picks g (Follows g way (name_by g.ids source.node))) (sym e) (name_by g.ids target.node, target_live target (port_of g source) fed, follows so)
             one so id (tail i) = elim i [ ]
 
@@ -148,7 +163,7 @@ module _ (g : GraphValue) where
         entered_has n i here enters =
             let same : port_at n i ≡ port_of g target = is.graph.once (port_at n i) (port_of g target) (port_of g source) here fed in
             let name : n ≡ name_by g.ids target.node = ap (λ (p : Port). p.node) same in
-            let so = subst (Enters g way) name enters in
+            let so = subst (Enters g way) same enters in
             let there : In target.node after = elim (in_cases target.node before) [
               | inl i ↦ subst (In target.node) (sym ((put so).there i)) i
               | inr new ↦ subst (In target.node) (sym ((put so).added new)) (in_right target.node before (target.node ∷ []) (head refl))
@@ -235,3 +250,32 @@ module _ (g : GraphValue) where
                 let (j, denotes, i) = found k walked in
                 let (place, at) = in_at j ids i in
                 done.closed place j (omega (arith, slice_get_within ids place j at)) at n (subst (λ m. Follows g way m n) (sym (itself j k denotes)) follows)
+
+        -- one step
+        pub stepping_first : Stepping g way from [] 0
+        stepping_first = record { reached = λ id i. elim i [ ]; closed = λ k id below. absurd (omega arith) }
+
+        pub stepping_more : (ids after : List NodeId) (next : ℕ) (id : NodeId) → Stepping g way from ids next → slice_get from next ≡ Some id →
+            Grows g (Follows g way (name_by g.ids id)) ids after → HasFollowers g way (name_by g.ids id) after → Stepping g way from after (next + 1)
+        stepping_more ids after next id so_far at grows has =
+            record {
+              reached = λ x i. elim (came (Follows g way (name_by g.ids id)) ids after grows x i) [
+                | inl old ↦ so_far.reached x old
+                | inr new ↦ (new.0, new.1, (id, at_in from next id at, new.2))
+              ];
+              closed = λ k x below got. elim (cases_eq k next) [
+                | inl same ↦ subst (λ y. HasFollowers g way (name_by g.ids y) after) (same_Some id x (sym at ∙ ap (slice_get from) (sym same) ∙ got)) has
+                | inr apart ↦ λ n follows. still_has (Follows g way (name_by g.ids id)) ids after n grows (so_far.closed k x (omega arith) got n follows)
+              ];
+            }
+
+        pub stepping_last : (ids : List NodeId) (next : ℕ) → Stepping g way from ids next → length from ≤ next → AreAll g (SteppedTo g way from) ids
+        stepping_last ids next done all id = (
+          done.reached id,
+          λ picked. let (j, denotes, i) = found picked.0 picked.2 in subst (λ x. In x ids) (is.alone j id picked.0 denotes picked.1) i,
+        )
+          where
+            found : (n : Name) → SteppedTo g way from n → Has g ids n
+            found n (j, i, follows) =
+                let (place, at) = in_at j from i in
+                done.closed place j (omega (arith, slice_get_within from place j at)) at n follows

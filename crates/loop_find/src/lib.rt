@@ -10,6 +10,7 @@ mod mark;
 mod named;
 mod node_set;
 mod shape;
+mod tree;
 mod walk;
 
 pub use loop_laws::LoopFaultKind;

@@ -3,7 +3,7 @@ ghost use Rattle.std.specs.Prelude.{◌≡◌, ◌↔◌, ◌<◌, ◌≤◌, Is
 ghost use Rattle.circuits.specs.Circuit.{circuit_of};
 ghost use Rattle.graph_core.specs.GraphValue.{Denotes, name_by, port_of};
 ghost use Rattle.loop_find.specs.NodeSets.{IsPut};
-ghost use Rattle.loop_find.specs.Walks.{AreAll, AreLive, Enters, Follows, Grows, HasBehind, HasFollowers, WalkedTo, is_branch, passes_through};
+ghost use Rattle.loop_find.specs.Walks.{AreAll, AreLive, Enters, Follows, Grows, HasBehind, HasFollowers, IsSelect, SteppedTo, WalkedTo, is_branch, is_mux, passes_through};
 
 use crate::named::kind_of;
 use crate::node_set::NodeSet;
@@ -18,6 +18,12 @@ pub(crate) enum Way {
     Tree,
     /// All but Branches and this mark.
     Body(NodeId),
+    /// Muxes, by their selects.
+    Selects,
+    /// All but Forks and Buffers, and Muxes by their selects.
+    Leaves,
+    /// Branches.
+    Branches,
 }
 
 /// Puts in all nodes to which walks lead from those of the set. The only error is want of memory.
@@ -32,6 +38,25 @@ pub(crate) fn walk(g: &Graph, way: Way, seen: &mut NodeSet) -> Result<(), NoMemo
     while next < seen.len() {
         seen.fits();
         let id = seen.at(next);
+        enter_followers(g, way, id, seen)?;
+        next += 1;
+    }
+    Ok(())
+}
+
+/// Makes the set that of the nodes to which one step leads from those of the other. The only error is want of memory.
+pub(crate) fn step(g: &Graph, way: Way, from: &NodeSet, seen: &mut NodeSet) -> Result<(), NoMemory>
+    requires live { AreLive g.now from.now.ids }
+    requires room { g.now.slots ≤ seen.old.room }
+    ensures all { OnOk result (AreAll g.now (SteppedTo g.now way from.now.ids) seen.new.ids) }
+    ensures room { seen.new.room ≡ seen.old.room }
+{
+    g.is_graph();
+    seen.clear();
+    let mut next = 0;
+    while next < from.len() {
+        from.fits();
+        let id = from.at(next);
         enter_followers(g, way, id, seen)?;
         next += 1;
     }
@@ -70,36 +95,46 @@ fn enter_follower(g: &Graph, way: Way, source: PortAt, seen: &mut NodeSet) -> Re
 {
     g.is_graph();
     match g.wire_from(source) {
-        Some(target) => enter(g, way, target.node, seen),
+        Some(target) => enter(g, way, target, seen),
         None => Ok(()),
     }
 }
 
-/// Puts the node in if a walk goes into it. The only error is want of memory.
-fn enter(g: &Graph, way: Way, id: NodeId, seen: &mut NodeSet) -> Result<(), NoMemory>
-    requires live { Denotes g.now id (name_by g.now.ids id) }
+/// Puts the node of this input in if a walk goes into it. The only error is want of memory.
+fn enter(g: &Graph, way: Way, target: PortAt, seen: &mut NodeSet) -> Result<(), NoMemory>
+    requires live { Denotes g.now target.node (name_by g.now.ids target.node) }
     requires room { g.now.slots ≤ seen.old.room }
-    ensures put { OnOk result (Enters g.now way (name_by g.now.ids id) → IsPut seen.old.ids id seen.new.ids) }
-    ensures left { OnOk result (¬ (Enters g.now way (name_by g.now.ids id)) → seen.new.ids ≡ seen.old.ids) }
+    ensures put { OnOk result (Enters g.now way (port_of g.now target) → IsPut seen.old.ids target.node seen.new.ids) }
+    ensures left { OnOk result (¬ (Enters g.now way (port_of g.now target)) → seen.new.ids ≡ seen.old.ids) }
     ensures room { seen.new.room ≡ seen.old.room }
 {
     g.is_graph();
-    if enters(g, way, id) {
-        return seen.insert(id);
+    if enters(g, way, target) {
+        return seen.insert(target.node);
     }
     Ok(())
 }
 
-/// Whether a walk goes into the node.
-fn enters(g: &Graph, way: Way, id: NodeId) -> bool
-    requires { Denotes g.now id (name_by g.now.ids id) }
-    ensures { IsTrue result ↔ Enters g.now way (name_by g.now.ids id) }
+/// Whether a walk goes into the node of this input.
+fn enters(g: &Graph, way: Way, target: PortAt) -> bool
+    requires { Denotes g.now target.node (name_by g.now.ids target.node) }
+    ensures { IsTrue result ↔ Enters g.now way (port_of g.now target) }
 {
     g.is_graph();
     match way {
-        Way::Tree => passes_through(g, id),
-        Way::Body(mark) => id != mark && !is_branch(g, id),
+        Way::Tree => passes_through(g, target.node),
+        Way::Body(mark) => target.node != mark && !is_branch(g, target.node),
+        Way::Selects => is_select(g, target),
+        Way::Leaves => !passes_through(g, target.node) && !is_select(g, target),
+        Way::Branches => is_branch(g, target.node),
     }
+}
+
+/// Whether the input is the select of a Mux.
+fn is_select(g: &Graph, target: PortAt) -> bool
+    ensures { IsTrue result ↔ IsSelect (circuit_of g.now.graph) (port_of g.now target) }
+{
+    target.port == 1 && is_mux(g, target.node)
 }
 
 /// Whether the node is a Fork or a Buffer.
@@ -114,4 +149,11 @@ pub(crate) fn is_branch(g: &Graph, id: NodeId) -> bool
     ensures { result ≡ is_branch ((circuit_of g.now.graph).kind_at (name_by g.now.ids id)) }
 {
     matches!(kind_of(g, id), Some(Kind::Branch(_)))
+}
+
+/// Whether the node is a Mux.
+pub(crate) fn is_mux(g: &Graph, id: NodeId) -> bool
+    ensures { result ≡ is_mux ((circuit_of g.now.graph).kind_at (name_by g.now.ids id)) }
+{
+    matches!(kind_of(g, id), Some(Kind::Mux(_)))
 }
