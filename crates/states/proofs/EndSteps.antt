@@ -39,7 +39,7 @@ either_way (Ok x) f p h q = f p
 either_way (Err e) f p h q = h q
 
 -- the node behind a kind
-body_behind : (o : Option Body) (kind : Kind) → kind_of_body o ≡ Some kind → (body : Body) × (o ≡ Some body) × (body.kind ≡ kind)
+pub body_behind : (o : Option Body) (kind : Kind) → kind_of_body o ≡ Some kind → (body : Body) × (o ≡ Some body) × (body.kind ≡ kind)
 body_behind None kind e = absurd (none-some kind e)
 body_behind (Some body) kind e = (body, refl, same_Some body.kind kind e)
 

@@ -4,3 +4,7 @@ mod Changing
 mod Stepping
 mod EndSteps
 mod Started
+mod Heads
+mod Choosing
+mod Readiness
+mod Enabling

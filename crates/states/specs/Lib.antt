@@ -3,3 +3,6 @@ pub mod GraphState
 pub mod Ends
 pub mod Starting
 pub mod Laws
+pub mod Taking
+pub mod Ready
+pub mod Enabled

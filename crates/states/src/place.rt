@@ -2,6 +2,7 @@
 ghost use Rattle.std.specs.Prelude.{◌≡◌, ◌++◌, ◌∷◌, [], ◌<◌, ℕ, replicate, length, slice_get, slice_set, drop, is_ok, IfOk, IfErr, OnOk, OnErr, IsTrue};
 ghost use Rattle.std.specs.Option.{option_copied};
 ghost use Rattle.states.specs.Place.{queue_at};
+ghost use Rattle.states.specs.Ready.{are_full, has_tag, head_number, is_finished, is_full, waits};
 
 use crate::queue::Queue;
 use crate::slot::TagSlot;
@@ -13,7 +14,7 @@ use std::marker::Model;
 #[derive(Debug, Drop)]
 pub(crate) struct Place {
     queues: Vec<Queue<Token>>,
-    slots: Queue<TagSlot>,
+    slots: Vec<TagSlot>,
 }
 
 impl Model for Place {
@@ -23,7 +24,7 @@ impl Model for Place {
 
     ghost coded = { place_code };
 
-    ghost view = { λ p. record { queues = p.queues.items; slots = p.slots } };
+    ghost view = { λ p. record { queues = p.queues.items; slots = p.slots.items } };
 }
 
 impl Place {
@@ -33,7 +34,7 @@ impl Place {
     {
         Place {
             queues,
-            slots: Queue::new(alloc),
+            slots: Vec::new(alloc),
         }
     }
 
@@ -73,10 +74,57 @@ impl Place {
         self.queues[input].pop()
     }
 
+    /// Whether a token stands at the input.
+    pub(crate) fn is_full(&self, input: usize) -> bool
+        ensures { result ≡ is_full (queue_at self.now.queues input) }
+    {
+        self.token(input, 0).is_some()
+    }
+
+    /// Whether a token stands at each input.
+    pub(crate) fn are_full(&self) -> bool
+        ensures { result ≡ are_full self.now.queues }
+    {
+        self.queues.iter().all(|queue| queue.get(0).is_some())
+    }
+
+    /// The first number of the token at the head of an input.
+    pub(crate) fn head_number(&self, input: usize) -> Option<u64>
+        ensures { result ≡ head_number (queue_at self.now.queues input) }
+    {
+        self.token(input, 0)?.fields().first().copied()
+    }
+
+    /// Whether the oldest slot has its result.
+    pub(crate) fn is_finished(&self) -> bool
+        ensures { result ≡ is_finished self.now.slots }
+    {
+        match self.slots.first() {
+            Some(slot) => slot.result.is_some(),
+            None => false,
+        }
+    }
+
+    /// Whether a slot with this tag has no result yet.
+    pub(crate) fn waits(&self, tag: u64) -> bool
+        ensures { result ≡ waits tag self.now.slots }
+    {
+        self.slots
+            .iter()
+            .any(|slot| slot.tag == tag && slot.result.is_none())
+    }
+
+    /// Whether a slot has this tag.
+    pub(crate) fn has_tag(&self, tag: u64) -> bool
+        ensures { result ≡ has_tag tag self.now.slots }
+    {
+        self.slots.iter().any(|slot| slot.tag == tag)
+    }
+
     /// The slots, oldest first.
-    pub(crate) fn slots(&self) -> &Queue<TagSlot>
+    pub(crate) fn slots(&self) -> &[TagSlot]
         ensures { result.now ≡ self.now.slots }
     {
-        &self.slots
+        self.slots.as_slice()
     }
 }

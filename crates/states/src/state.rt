@@ -1,5 +1,5 @@
 //! States, how they are read, and how tokens come in and go out.
-ghost use Rattle.std.specs.Prelude.{◌≡◌, ◌<◌, ◌≤◌, ◌-◌, ◌++◌, ◌∷◌, [], ℕ, Some, IsSome, length, drop, slice_get, IfSome, IfNone, IfErr, OnOk, OnErr};
+ghost use Rattle.std.specs.Prelude.{◌≡◌, ◌↔◌, ◌<◌, ◌≤◌, ◌-◌, ◌++◌, ◌∷◌, [], ℕ, Some, IsSome, length, drop, slice_get, IsTrue, IfSome, IfNone, IfErr, OnOk, OnErr};
 ghost use Rattle.std.specs.Option.{option_copied};
 ghost use Rattle.std.specs.FinMap as finite;
 ghost use Rattle.port_types.specs.declared.side.Side.{Side};
@@ -9,11 +9,14 @@ ghost use Rattle.circuits.specs.Run.{Step};
 ghost use Rattle.graph_core.specs.GraphValue.{name_by, port_of};
 ghost use Rattle.graph_core.specs.Place.{index_of};
 ghost use Rattle.graph_core.specs.Wiring.{HasPort};
+ghost use Rattle.states.specs.Enabled.{IsEnabled};
 ghost use Rattle.states.specs.Ends.{IsEntryFor, IsExitAt};
 ghost use Rattle.states.specs.GraphState.{IsStateIn, place_at, queue_of, state_of, with_queue};
 
+use crate::kind::kind_at;
 use crate::laws::states_stay;
 use crate::place::Place;
+use crate::ready::ready;
 use graph_core::{Graph, NodeId, PortAt};
 use port_types::Token;
 use std::marker::Model;
@@ -74,6 +77,16 @@ impl State {
     {
         g.is_graph();
         self.place(tagger).slots().len()
+    }
+
+    /// Whether a node of the graph can fire with the choice, by the row of its kind. Takes no memory.
+    pub fn enabled(&self, g: &Graph, node: NodeId, choice: u32) -> bool
+        requires state { IsStateIn g.now self.now }
+        requires live { IsSome (finite.get g.now.ids node) }
+        ensures { IsTrue result ↔ IsEnabled g.now self.now node choice }
+    {
+        g.is_graph();
+        ready(kind_at(g, node), self.place(node), choice).is_some()
     }
 
     /// Puts a token that fits in at an Entry of the graph. Want of memory hands the token back, and leaves the state as it was.

@@ -13,5 +13,5 @@ place-requires c =
 
 pub returns : goal.returns
 returns c =
-    c.len.ensures ∙ ap length c.slots.ensures ∙ ap (λ (p : PlaceValue). length p.slots) c.place.ensures
+    ap length c.slots.ensures ∙ ap (λ (p : PlaceValue). length p.slots) c.place.ensures
     ∙ ap (λ (p : PlaceValue). length p.slots) (sym (place_denoted c.args.g.now c.is_graph.ensures c.args.self.now c.args.tagger (name_by c.args.g.now.ids c.args.tagger) (live_denotes c.args.g.now c.args.tagger c.requires.live)))
