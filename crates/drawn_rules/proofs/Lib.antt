@@ -6,3 +6,6 @@ pub mod Places
 pub mod RowPlaces
 pub mod RowEnds
 pub mod Labels
+pub mod Labelled
+pub mod PlacedAlike
+pub mod GraphNodes
