@@ -6,13 +6,16 @@ mod Environments
 mod ExprLists
 mod ExprTrees
 mod ExprValues
+mod NodesFitting
 mod Gcd
 mod GcdBody
 mod GcdNames
 mod GivenFields
 mod Giving
+mod Judged
 mod Lists
 mod Looping
+mod Marking
 mod Meaning
 mod NodeMeaning
 mod Nodes
@@ -22,7 +25,9 @@ mod Turns
 mod Uses
 mod Depths
 mod Taking
+mod Rooting
 mod Settled
 mod Steps
 mod Distinct
+mod Weights
 mod Whole

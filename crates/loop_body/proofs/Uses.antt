@@ -63,7 +63,7 @@ row_entries table node port front (x ∷ row) (s ∷ shapes) h k l =
     ap (λ o. o ∷ map (entry table) (row_ports node (port + 1) shapes)) first ∙
     ap (λ os. Some x ∷ os) (row_entries table node (port + 1) (front ++ x ∷ []) row shapes (h ∙ ap Some (sym (append_assoc front (x ∷ []) row))) (omega (arith, k, length-push front x)) (omega arith))
 
-table_entries : {A : Type 0} (front rows : List (List A)) (node : ℕ) (shapes : List (List Shape)) → node ≡ length front → SameLengths rows shapes → map (entry (front ++ rows)) (table_ports node shapes) ≡ map Some (flat rows)
+pub table_entries : {A : Type 0} (front rows : List (List A)) (node : ℕ) (shapes : List (List Shape)) → node ≡ length front → SameLengths rows shapes → map (entry (front ++ rows)) (table_ports node shapes) ≡ map Some (flat rows)
 table_entries front [] node [] h k = refl
 table_entries front [] node (s ∷ shapes) h k = absurd k
 table_entries front (r ∷ rows) node [] h k = absurd k

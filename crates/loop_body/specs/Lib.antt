@@ -5,6 +5,7 @@ pub mod BodyValue
 pub mod Gcd
 pub mod Laws
 pub mod Loops
+pub mod Judging
 pub mod Applied
 pub mod Binding
 pub mod Tables

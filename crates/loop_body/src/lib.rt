@@ -11,9 +11,13 @@
 mod binds;
 mod body;
 mod body_port;
+mod fitting;
 mod function;
+mod kinds;
 mod laws;
+mod marks;
 mod node_row;
+mod roots;
 mod row;
 mod table;
 mod wired;
