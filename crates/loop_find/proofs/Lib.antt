@@ -1,3 +1,4 @@
+mod Choosing
 mod KindTests
 mod MarkLists
 mod MarkedNodes

@@ -1,7 +1,7 @@
 -- Walks along wires, forward from some nodes, into nodes of some kinds alone.
 use Rattle.std.specs.Prelude.{◌≡◌, ◌↔◌, ℕ, List, ◌++◌, Bool, true, false, Option, Some}
 use Rattle.components.specs.declared.kind.Kind.{Kind}
-use Rattle.components.specs.declared.kind.Kind.TheVariants.{Buffer, Fork, Mux, Branch}
+use Rattle.components.specs.declared.kind.Kind.TheVariants.{Buffer, Fork, Join, Split, Operator, Constant, Sink0, Pure, Mux, Branch}
 use Rattle.components.specs.Name.{Name, Port}
 use Rattle.circuits.specs.Circuit.{Circuit, circuit_of}
 use Rattle.circuits.specs.Replacing.{In}
@@ -59,6 +59,18 @@ pub record Follows (g : GraphValue) (way : Way) (from n : Name) : Type 0 where
 abbrev pub is_mux : Option Kind → Bool
 is_mux (Some (Mux shape)) = true
 is_mux _ = false
+
+-- the kinds that may be reached
+abbrev pub is_pure : Option Kind → Bool
+is_pure (Some (Buffer shape)) = true
+is_pure (Some (Fork shape count)) = true
+is_pure (Some (Join shapes)) = true
+is_pure (Some (Split shapes)) = true
+is_pure (Some (Operator op widths width)) = true
+is_pure (Some (Constant shape width value)) = true
+is_pure (Some (Pure fun shape)) = true
+is_pure (Some (Sink0 shape)) = true
+is_pure _ = false
 
 -- what one step from these nodes comes to
 abbrev pub SteppedTo : GraphValue → Way → List NodeId → Name → Type 0

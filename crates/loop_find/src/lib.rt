@@ -6,6 +6,8 @@
 //! one answer.
 #![tactic(auto)]
 
+mod choose;
+mod least;
 mod mark;
 mod named;
 mod node_set;
