@@ -1,5 +1,5 @@
 -- Places in lists, and the places of the nodes of a set.
-use Rattle.std.proofs.Common.{◌≡◌, ◌≢◌, ◌⊎◌, inl, inr, ℕ, zero, suc, ◌<◌, ◌≤◌, refl, sym, ap, subst, ◌∙◌, List, [], ◌∷◌, ◌++◌, length, set, Some, None, Result, Ok, Err, OnOk, OnErr, arith}
+use Rattle.std.proofs.Common.{◌≡◌, ◌≢◌, ◌⊎◌, inl, inr, ℕ, zero, suc, ◌<◌, ◌≤◌, refl, sym, ap, subst, ◌∙◌, List, [], ◌∷◌, ◌++◌, length, replicate, set, Some, None, Result, Ok, Err, OnOk, OnErr, arith}
 use Rattle.std.specs.Prelude.{slice_get}
 use Rattle.std.proofs.lemmas.Option.{same_Some, none-some}
 use Rattle.circuits.specs.Replacing.{In, In.head, In.tail}
@@ -128,3 +128,13 @@ module _ (ids : List NodeId) (places : List ℕ) (have : HavePlaces ids places) 
         HavePlaces after (set places (index_of id) (length ids))
     have_after (Ok u) after ok err room = subst (λ xs. HavePlaces xs (set places (index_of id) (length ids))) (sym ok) (have_new room)
     have_after (Err e) after ok err room = subst (λ xs. HavePlaces xs (set places (index_of id) (length ids))) (sym err) (still_have (length ids))
+
+pub got_below : {A : Type 0} (xs : List A) (k : ℕ) (x : A) → slice_get xs k ≡ Some x → k < length xs
+got_below [] k x e = absurd (none-some x e)
+got_below (y ∷ xs) zero x e = omega arith
+got_below (y ∷ xs) (suc k) x e = let less = got_below xs k x e in omega (arith, less)
+
+pub repeated : {A : Type 0} (n k : ℕ) (y x : A) → slice_get (replicate n y) k ≡ Some x → x ≡ y
+repeated zero k y x e = absurd (none-some x e)
+repeated (suc n) zero y x e = same_Some x y (sym e)
+repeated (suc n) (suc k) y x e = repeated n k y x e

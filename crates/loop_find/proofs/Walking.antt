@@ -87,6 +87,11 @@ module _ (g : GraphValue) where
     pub named : (id : NodeId) (n : Name) (kind : Kind) → (circuit_of g.graph).kind_at n ≡ Some kind → name_by g.ids id ≡ n → Denotes g id n
     named id n kind e same = let (body, found) = has_body n kind e in denoted_by g is (record { node = id; port = 1 }) n body found same
 
+    -- a name is denoted by one id alone
+    pub same_named : (id other : NodeId) (n : Name) → Denotes g id n → name_by g.ids other ≡ n → other ≡ id
+    same_named id other n denotes same =
+        let (body, found) = is.denoted id n denotes in is.alone other id n (denoted_by g is (record { node = other; port = 1 }) n body found same) denotes
+
     pub id_of_node : (n : Name) (kind : Kind) → (circuit_of g.graph).kind_at n ≡ Some kind → (id : NodeId) × Denotes g id n
     id_of_node n kind e = let (body, found) = has_body n kind e in is.live n body found
 

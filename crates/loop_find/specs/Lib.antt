@@ -1,5 +1,9 @@
+pub mod Backs
+pub mod Crossings
 pub mod Judging
 pub mod Marks
 pub mod NodeSets
+pub mod OnCycle
 pub mod Shapes
+pub mod Spots
 pub mod Walks

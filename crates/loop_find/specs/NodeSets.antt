@@ -13,6 +13,10 @@ pub record NodeSetValue : Type 0 where
 abbrev pub HavePlaces : List NodeId → List ℕ → Type 0
 HavePlaces ids places = (k : ℕ) (id : NodeId) → slice_get ids k ≡ Some id → slice_get places (index_of id) ≡ Some k
 
+-- no node stands at two places
+abbrev pub AreDifferent : List NodeId → Type 0
+AreDifferent ids = (j k : ℕ) (id : NodeId) → slice_get ids j ≡ Some id → slice_get ids k ≡ Some id → j ≡ k
+
 -- the node stands in the set, behind those that stood there if it is new
 pub record IsPut (ids : List NodeId) (id : NodeId) (with_it : List NodeId) : Type 0 where
   pub there : In id ids → with_it ≡ ids

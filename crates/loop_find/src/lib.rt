@@ -1,20 +1,28 @@
-//! Finding loops. Today: the marks of a graph, and what a loop and a fault are by the ids of nodes.
+//! Finding loops. Today: the marks of a graph, what a loop and a fault are by the ids of nodes, and which loops lie on cycles.
 //!
 //! - `marks`: the Inits that ask for tags, in byte order of their names.
+//! - `on_cycles`: of the loops of all marks, which lie on cycles.
 //!
 //! What the loop at a mark is, and what keeps a mark from having one, says the crate `loop_laws`, which also proves that a mark has
 //! one answer.
 #![tactic(auto)]
 
+mod back;
 mod choose;
+mod cycles;
+mod lane_branch;
 mod least;
+mod limits;
 mod mark;
 mod named;
 mod node_set;
+mod rows;
 mod shape;
+mod spots;
 mod tree;
 mod walk;
 
+pub use cycles::on_cycles;
 pub use loop_laws::LoopFaultKind;
 pub use mark::marks;
 pub use shape::{FindFault, Lane, LoopFault, LoopShape};

@@ -2,7 +2,7 @@
 ghost use Rattle.std.specs.Prelude.{◌≡◌, ◌↔◌, ◌<◌, ◌≤◌, [], Some, length, slice_get, IsTrue, IfOk, OnOk, OnErr, ◌++◌, ◌∷◌};
 ghost use Rattle.circuits.specs.Replacing.{In};
 ghost use Rattle.graph_core.specs.Place.{index_of};
-ghost use Rattle.loop_find.specs.NodeSets.{IsPut};
+ghost use Rattle.loop_find.specs.NodeSets.{AreDifferent, IsPut};
 
 use graph_core::NodeId;
 use port_types::NoMemory;
@@ -111,6 +111,13 @@ impl NodeSet {
     /// There are no more nodes than indices.
     pub(crate) fn fits(&self)
         ensures { length self.now.ids ≤ self.now.room }
+    {
+        let _ = &self.ids;
+    }
+
+    /// No node stands at two places.
+    pub(crate) fn differ(&self)
+        ensures { AreDifferent self.now.ids }
     {
         let _ = &self.ids;
     }

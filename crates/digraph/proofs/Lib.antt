@@ -1,0 +1,7 @@
+mod Places
+mod EdgeLists
+mod Leads
+mod Marks
+mod DepthWalk
+mod GroupRows
+mod GroupsTold

@@ -1,0 +1,4 @@
+pub mod Edges
+pub mod Cycles
+pub mod Leaving
+pub mod Grouping

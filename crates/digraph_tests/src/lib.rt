@@ -1,0 +1,5 @@
+//! The tests of `digraph`, in a crate of their own: they are proved over its contracts, and it need not be proved again with them.
+#![tactic(auto)]
+
+#[cfg(test)]
+mod tests;
