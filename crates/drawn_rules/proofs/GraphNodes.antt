@@ -11,7 +11,8 @@ use Rattle.components.specs.NamedGraph.{NamedGraph, IsTyped, HasAllowedNames}
 use Rattle.circuits.specs.Circuit.{circuit_of, kind_of_body}
 use Rattle.circuits.specs.Replacing.{NoneTwice}
 use Rattle.subst_engine.specs.Prefix.{prefix_text, BeginsWith, IsTaken}
-use Rattle.drawn_rules.proofs.Labels.{AreFree}
+use Rattle.drawn_rules.specs.Labels.{AreFree}
+pub use Rattle.drawn_rules.specs.Listed.{IsNodeOf}
 
 -- the node that a kind is of
 pub record HasBody (g : NamedGraph) (n : Name) (k : Kind) : Type 0 where
@@ -28,10 +29,6 @@ body_at g n k e = body_by g n k (finite.get g.nodes n) refl e
 
 pub ok_at : (g : NamedGraph) → IsTyped g → (n : Name) (k : Kind) → (circuit_of g).kind_at n ≡ Some k → KindOk k
 ok_at g typed n k e = let b = body_at g n k e in subst KindOk b.is_kind (typed.kinds n b.body b.there)
-
--- a node of the graph
-abbrev pub IsNodeOf : NamedGraph → Name → Type 0
-IsNodeOf g name = IsSome ((circuit_of g).kind_at name)
 
 body_some : (g : NamedGraph) (n : Name) (o : Option Body) → finite.get g.nodes n ≡ o → IsSome (kind_of_body o) → (body : Body) × (finite.get g.nodes n ≡ Some body)
 body_some g n None e some = absurd (true≢false (sym some))

@@ -14,6 +14,7 @@ use Rattle.circuits.specs.Replacing.{NoneTwice}
 use Rattle.subst_engine.specs.Making.{AllDiffer}
 use Rattle.subst_engine.specs.Prefix.{prefix_text, BeginsWith}
 use Rattle.drawn_rules.specs.Labels.{nth, Label, listed, ending, fresh, end_name, label_name}
+pub use Rattle.drawn_rules.specs.Labels.{AreFree}
 use Rattle.drawn_rules.proofs.NewNames.{is_word_byte, decimal_pass, prefixed_name}
 
 -- Names with two prefixes
@@ -54,15 +55,7 @@ Fits old names (ending letter number) = (is_end_letter letter ≡ true) × (numb
 Fits true names (fresh word) = ⊥
 Fits false names (fresh word) = (is_end_letter (slice_index word 0) ≡ false) × (list_all is_word_byte word ≡ true) × (length word ≤ 200)
 
--- the names of listed nodes differ, are allowed, and do not begin with the prefix of Entries and Exits
-pub record AreFree (prefix ends : ℕ) (names : List Name) : Type 0 where
-  pub new_number : prefix < 2 ^ 64
-  pub end_number : ends < 2 ^ 64
-  pub differ : NoneTwice names
-  pub allowed : AllByRecursion IsName names
-  pub away : AllByRecursion (λ name. ¬ (BeginsWith (prefix_text ends) name)) names
-
-all_nth : (P : Name → Type 0) (names : List Name) (place : ℕ) → place < length names → AllByRecursion P names → P (nth names place)
+pub all_nth : (P : Name → Type 0) (names : List Name) (place : ℕ) → place < length names → AllByRecursion P names → P (nth names place)
 all_nth P [] place within h = absurd (omega (arith, within))
 all_nth P (n ∷ names) zero within h = h.0
 all_nth P (n ∷ names) (suc place) within h = all_nth P names place (omega (arith, within)) h.1

@@ -1,8 +1,10 @@
 -- The names of the nodes of a rule's two graphs, by labels.
-use Rattle.std.specs.Prelude.{ℕ, List, [], ◌∷◌, ◌++◌, slice_index_or}
+use Rattle.std.specs.Prelude.{ℕ, ◌<◌, ◌^◌, List, [], ◌∷◌, ◌++◌, slice_index_or}
+use Rattle.std.specs.List.{AllByRecursion}
 use Rattle.std.specs.Fmt.{decimal}
-use Rattle.components.specs.Name.{Name}
-use Rattle.subst_engine.specs.Prefix.{prefix_text}
+use Rattle.components.specs.Name.{Name, IsName}
+use Rattle.circuits.specs.Replacing.{NoneTwice}
+use Rattle.subst_engine.specs.Prefix.{prefix_text, BeginsWith}
 
 -- the name at a place of a list
 abbrev pub nth : List Name → ℕ → Name
@@ -23,3 +25,11 @@ abbrev pub label_name : ℕ → ℕ → List Name → Label → Name
 label_name prefix ends names (listed place) = nth names place
 label_name prefix ends names (ending letter number) = end_name ends letter number
 label_name prefix ends names (fresh word) = prefix_text prefix ++ word
+
+-- the names of listed nodes differ, are allowed, and do not begin with the prefix of Entries and Exits
+pub record AreFree (prefix ends : ℕ) (names : List Name) : Type 0 where
+  pub new_number : prefix < 2 ^ 64
+  pub end_number : ends < 2 ^ 64
+  pub differ : NoneTwice names
+  pub allowed : AllByRecursion IsName names
+  pub away : AllByRecursion (λ name. ¬ (BeginsWith (prefix_text ends) name)) names

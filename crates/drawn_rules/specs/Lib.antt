@@ -4,3 +4,4 @@ pub mod Placed
 pub mod Rows
 pub mod Labels
 pub mod RowEnds
+pub mod Listed

@@ -1,3 +1,4 @@
 pub mod Inserted
 pub mod DropBufferLaws
 pub mod SplitJoinLaws
+pub mod TrimForkLaws

@@ -1,3 +1,5 @@
--- The rule split_join: it is sound.
+-- The rule split_join: its graphs can be made, it is sound, and what an instance is.
 pub mod SideNames
 pub mod SplitJoinSound
+pub mod SplitSides
+pub mod SplitInstances

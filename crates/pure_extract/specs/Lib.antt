@@ -1,2 +1,5 @@
 pub mod DropBuffer
 pub mod SplitJoin
+pub mod TrimFork
+pub mod TrimForkSides
+pub mod SplitJoinSides

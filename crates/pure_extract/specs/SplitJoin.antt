@@ -5,10 +5,11 @@ use Rattle.std.specs.List.{concat}
 use Rattle.components.specs.declared.kind.Kind.TheVariants.{Split, Join}
 use Rattle.components.specs.Name.{Name, port_get}
 use Rattle.components.specs.Kind.{Shape, AreParts}
-use Rattle.components.specs.NamedGraph.{NamedGraph}
+use Rattle.components.specs.NamedGraph.{NamedGraph, IsTyped}
 use Rattle.circuits.specs.Circuit.{circuit_of}
 use Rattle.circuits.specs.Buffers.{first_port}
 use Rattle.circuits.specs.BufferRule.{straight}
+use Rattle.circuits.specs.ReplacedGraph.{Matches}
 use Rattle.lane_laws.specs.SplitJoin.{SplitJoined, entry, split, join, exit, split_joined_graph}
 use Rattle.subst_engine.specs.declared.word.RuleWord.TheVariants.{SplitJoin}
 use Rattle.subst_engine.specs.Rule.{NamedRule, IsSoundRule}
@@ -51,8 +52,12 @@ pub record IsSplitJoin (g : NamedGraph) (s j : Name) (rule : NamedRule) : Type 0
   pub can : CanSplitJoin g s j
   pub is : rule ≡ split_join s j can.parts
 
--- Law
+-- Laws
 
 -- the rule at different names meets what a rule owes
 abbrev pub SplitJoinIsSound : Type 0
 SplitJoinIsSound = (s j : Name) (parts : List Shape) → s ≢ j → AreParts parts → IsSoundRule (split_join s j parts)
+
+-- it matches where it was made
+abbrev pub SplitJoinMatches : Type 0
+SplitJoinMatches = (g : NamedGraph) (s j : Name) (rule : NamedRule) → IsTyped g → IsSplitJoin g s j rule → Matches g rule.left rule.right

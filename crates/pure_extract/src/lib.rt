@@ -4,11 +4,13 @@
 //!   what it fed.
 //! - `drop_buffer_is_sound`, `drop_buffer_leaves_out`: laws of its definition. The rule meets what a rule owes; where it was made it
 //!   matches, and what comes of it is the graph without the node.
-//! - `split_join_is_sound`: a law of the definition of the rule `split_join`, by which a Split whose outputs are joined again in their order
-//!   gives way to a wire: it meets what a rule owes. The rule is not made at nodes of a graph yet.
+//! - `TrimFork`: the rule `trim_fork`, made by `TrimFork::at`: a Fork of the other outputs comes in the place of a Fork and a Sink that one
+//!   of its outputs feeds. `trim_fork_is_sound`, `trim_fork_matches`: laws of its definition.
+//! - `SplitJoin`: the rule `split_join`, made by `SplitJoin::at`: a Split whose outputs are joined again in their order gives way to a wire.
+//!   `split_join_is_sound`, `split_join_matches`: laws of its definition.
 //! - `AtFault`, of `subst_engine`: why a constructor has no rule.
 //!
-//! Each rule has one file of code, one of definitions in `specs/`, and one folder of proofs. `docs/RULES.md` says what the rules do, and how
+//! Each rule has its code, one file of definitions in `specs/`, and one folder of proofs. `docs/RULES.md` says what the rules do, and how
 //! to add one.
 //!
 //! Where an Entry `a` feeds a Buffer `b` that feeds an Exit `z`, `DropBuffer::at(alloc, &g, 0, b"b")` is the rule that puts an Entry `in`
@@ -17,7 +19,11 @@
 
 mod drop_buffer;
 mod split_join;
+mod split_join_sides;
+mod trim_fork;
+mod trim_fork_sides;
 
 pub use drop_buffer::{DropBuffer, drop_buffer_is_sound, drop_buffer_leaves_out};
-pub use split_join::split_join_is_sound;
+pub use split_join::{SplitJoin, split_join_is_sound, split_join_matches};
 pub use subst_engine::AtFault;
+pub use trim_fork::{TrimFork, trim_fork_is_sound, trim_fork_matches};

@@ -65,7 +65,7 @@ module _ (entry exit : Name) (shape : Shape) (apart : exit ≢ entry) (entry_ok 
         enters = refl;
       }
 
-  can_make_right : IsShape shape → CanMake (right_nodes entry exit shape) right_wires
+  pub can_make_right : IsShape shape → CanMake (right_nodes entry exit shape) right_wires
   can_make_right ok =
       record {
         are_ok = (node_ok exit (Exit shape) exit_ok ok, (node_ok entry (Entry shape) entry_ok ok, tt));

@@ -1,0 +1,3 @@
+mod LaneLists
+mod BranchLaws
+mod MuxLaws

@@ -1,0 +1,3 @@
+-- The rules mux_combine and mux_combine0: they are sound, and match at an instance.
+pub mod MuxNodes
+pub mod MuxSound

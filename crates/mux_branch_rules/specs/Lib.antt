@@ -1,0 +1,3 @@
+pub mod BranchCombine
+pub mod BranchSides
+pub mod MuxCombine

@@ -1,0 +1,15 @@
+use Rattle.std.proofs.Common.{◌∙◌}
+use Rattle.pure_extract.proofs.TrimForkLaws.TrimSides.{can_right, right_is}
+use Rattle.pure_extract.proofs.trim_fork_sides.right_graph.Goals as goal
+
+pub rule_graph-requires : goal.rule_graph-requires
+rule_graph-requires c =
+    let sunk = c.args.sunk in
+    can_right c.trim_fork_refines.ensures.rule c.args.prefix c.args.ends sunk.fork.now sunk.sink.now sunk.shape.now sunk.others sunk.port c.requires
+    c.in_ok-nodes.nodes.items c.as_slice.result.now c.in_ok-nodes.ensures (c.as_slice.ensures.value ∙ c.in_ok-wires.ensures)
+
+pub returns : goal.returns
+returns c =
+    let sunk = c.args.sunk in
+    c.in_ok-made.ensures ∙ right_is c.trim_fork_refines.ensures.rule c.args.prefix c.args.ends sunk.fork.now sunk.sink.now sunk.shape.now sunk.others sunk.port c.requires
+    c.in_ok-nodes.nodes.items c.as_slice.result.now c.in_ok-nodes.ensures (c.as_slice.ensures.value ∙ c.in_ok-wires.ensures)
