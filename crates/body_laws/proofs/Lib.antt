@@ -1,0 +1,17 @@
+mod SteadyStreams
+mod SteadyKinds
+mod SteadySteps
+mod SteadyCatch
+mod SteadyMatch
+mod PlaceLemmas
+mod TypedPlans
+mod BodyValues
+mod PartSteady
+mod BodyConsumers
+mod GatheredTyped
+mod BodyTokens
+mod BodySteady
+mod GatheredSteady
+mod BodyLaws
+mod GoodBody
+mod Tokens

@@ -1,0 +1,4 @@
+pub mod TypedPlan
+pub mod Bodies
+pub mod BodyPlans
+pub mod Laws
