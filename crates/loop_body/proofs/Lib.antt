@@ -17,6 +17,7 @@ mod Lists
 mod Looping
 mod Marking
 mod Meaning
+mod Naming
 mod NodeMeaning
 mod Nodes
 mod PureMeaning
@@ -31,3 +32,4 @@ mod Steps
 mod Distinct
 mod Weights
 mod Whole
+mod Origins

@@ -1,5 +1,5 @@
 -- Loops of bodies and of their functions.
-use Rattle.std.proofs.Common.{◌≡◌, ℕ, ◌<◌, List, [], ◌∷◌, ◌++◌, refl, ap, sym, ◌∙◌, subst}
+use Rattle.std.proofs.Common.{◌≡◌, ℕ, ◌<◌, Bool, true, false, List, [], ◌∷◌, ◌++◌, refl, ap, sym, ◌∙◌, subst}
 use Rattle.std.specs.List.{concat}
 use Rattle.circuits.specs.PortTokens.{Token}
 use Rattle.circuits.specs.Firing.{FitEach}
@@ -7,7 +7,9 @@ use Rattle.fun_expr.specs.Function.{fun_value}
 use Rattle.loop_body.specs.Body.{Body, IsBody}
 use Rattle.loop_body.specs.BodyValue.{Turn}
 use Rattle.loop_body.specs.BodyFunction.{body_function}
-use Rattle.loop_body.specs.Loops.{Loops, ends, goes_on, FunLoops, ends_at, goes_to, ComesBack, LoopIsOne, FunctionLoops, FunctionLoopsBack}
+use Rattle.loop_laws.specs.Polarity.{back_bit, exit_bit}
+use Rattle.loop_laws.specs.LoopResult.{FunctionLoops, ends_with, goes_on as goes_again}
+use Rattle.loop_body.specs.Loops.{Loops, ends, goes_on, ComesBack, LoopIsOne, LoopsByFunction, LoopsOfFunction}
 use Rattle.loop_body.proofs.NodeMeaning.{OpLaws}
 use Rattle.loop_body.proofs.Turns.{turn_is_one, function_turns}
 
@@ -38,22 +40,26 @@ same_turn laws b ok back tuple next other bit c fit t u =
     ((o.once other c u).0 ∙ sym (o.once next bit t).0, (o.once other c u).1 ∙ sym (o.once next bit t).1)
 
 -- one result
-pub loop_is_one : OpLaws → (b : Body) → IsBody b → ComesBack b → (tuple result other : List Token) → FitEach b.vars tuple → Loops b tuple result → Loops b tuple other → other ≡ result
-loop_is_one laws b ok back tuple result other fit (ends _ _ t) (ends _ _ u) = (same_turn laws b ok back tuple result other 0 0 fit t u).0
-loop_is_one laws b ok back tuple result other fit (ends _ _ t) (goes_on _ next _ u rest) =
-    let e = (same_turn laws b ok back tuple result next 0 1 fit t u).1 in absurd cc
-loop_is_one laws b ok back tuple result other fit (goes_on _ next _ t rest) (ends _ _ u) =
-    let e = (same_turn laws b ok back tuple next other 1 0 fit t u).1 in absurd cc
-loop_is_one laws b ok back tuple result other fit (goes_on _ next _ t rest) (goes_on _ next' _ u rest') =
-    let e = (same_turn laws b ok back tuple next next' 1 1 fit t u).0 in
-    loop_is_one laws b ok back next result other (next_fits laws b ok back tuple next 1 fit t) rest (subst (λ x. Loops b x other) e rest')
+bits_differ : (d : Bool) → exit_bit d ≡ back_bit d → ⊥
+bits_differ true e = cc
+bits_differ false e = cc
+
+pub loop_is_one : OpLaws → (b : Body) (d : Bool) → IsBody b → ComesBack b → (tuple result other : List Token) → FitEach b.vars tuple → Loops b d tuple result → Loops b d tuple other → other ≡ result
+loop_is_one laws b d ok back tuple result other fit (ends _ _ t) (ends _ _ u) = (same_turn laws b ok back tuple result other (exit_bit d) (exit_bit d) fit t u).0
+loop_is_one laws b d ok back tuple result other fit (ends _ _ t) (goes_on _ next _ u rest) =
+    absurd (bits_differ d (sym (same_turn laws b ok back tuple result next (exit_bit d) (back_bit d) fit t u).1))
+loop_is_one laws b d ok back tuple result other fit (goes_on _ next _ t rest) (ends _ _ u) =
+    absurd (bits_differ d (same_turn laws b ok back tuple next other (back_bit d) (exit_bit d) fit t u).1)
+loop_is_one laws b d ok back tuple result other fit (goes_on _ next _ t rest) (goes_on _ next' _ u rest') =
+    let e = (same_turn laws b ok back tuple next next' (back_bit d) (back_bit d) fit t u).0 in
+    loop_is_one laws b d ok back next result other (next_fits laws b ok back tuple next (back_bit d) fit t) rest (subst (λ x. Loops b d x other) e rest')
 
 -- the function loops as the body does
-pub function_loops : OpLaws → (b : Body) → IsBody b → ComesBack b → (tuple result : List Token) → FitEach b.vars tuple → Loops b tuple result → FunLoops (body_function b) (concat tuple) (concat result)
-function_loops laws b ok back tuple result fit (ends _ _ t) = ends_at (concat tuple) (concat result) (function_turns laws b tuple result 0 ok fit t)
-function_loops laws b ok back tuple result fit (goes_on _ next _ t rest) =
-    goes_to (concat tuple) (concat next) (concat result) (function_turns laws b tuple next 1 ok fit t)
-    (function_loops laws b ok back next result (next_fits laws b ok back tuple next 1 fit t) rest)
+pub loops_by_function : OpLaws → (b : Body) (d : Bool) → IsBody b → ComesBack b → (tuple result : List Token) → FitEach b.vars tuple → Loops b d tuple result → FunctionLoops (body_function b) d (concat tuple) (concat result)
+loops_by_function laws b d ok back tuple result fit (ends _ _ t) = ends_with (concat tuple) (concat result) (function_turns laws b tuple result (exit_bit d) ok fit t)
+loops_by_function laws b d ok back tuple result fit (goes_on _ next _ t rest) =
+    goes_again (concat tuple) (concat next) (concat result) (function_turns laws b tuple next (back_bit d) ok fit t)
+    (loops_by_function laws b d ok back next result (next_fits laws b ok back tuple next (back_bit d) fit t) rest)
 
 -- the last of a list, and what stands before it
 last_same : (xs ys : List ℕ) (a b : ℕ) → xs ++ a ∷ [] ≡ ys ++ b ∷ [] → (xs ≡ ys) × (a ≡ b)
@@ -74,28 +80,28 @@ last_same (x ∷ xs) (y ∷ ys) a b h =
     (ap (λ z. z ∷ xs) head ∙ ap (λ zs. y ∷ zs) rest.0, rest.1)
 
 -- and back
-pub record Back (b : Body) (tuple : List Token) (v : Token) : Type 0 where
+pub record Back (b : Body) (d : Bool) (tuple : List Token) (v : Token) : Type 0 where
   pub result : List Token
-  pub loops : Loops b tuple result
+  pub loops : Loops b d tuple result
   pub fit : FitEach b.vars result
   pub is : v ≡ concat result
 
-back_from : OpLaws → (b : Body) → IsBody b → ComesBack b → (tuple : List Token) (u v : Token) → FitEach b.vars tuple → u ≡ concat tuple → FunLoops (body_function b) u v → Back b tuple v
-back_from laws b ok back tuple u v fit e (ends_at _ _ h) =
+back_from : OpLaws → (b : Body) (d : Bool) → IsBody b → ComesBack b → (tuple : List Token) (u v : Token) → FitEach b.vars tuple → u ≡ concat tuple → FunctionLoops (body_function b) d u v → Back b d tuple v
+back_from laws b d ok back tuple u v fit e (ends_with _ _ h) =
     let o = one laws b ok back tuple fit in
-    let same = last_same v (concat o.next) 0 o.bit (sym h ∙ ap (fun_value (body_function b)) e ∙ function_turns laws b tuple o.next o.bit ok fit o.turn) in
+    let same = last_same v (concat o.next) (exit_bit d) o.bit (sym h ∙ ap (fun_value (body_function b)) e ∙ function_turns laws b tuple o.next o.bit ok fit o.turn) in
     record { result = o.next; loops = ends tuple o.next (subst (Turn b tuple o.next) (sym same.1) o.turn); fit = o.fit; is = same.0 }
-back_from laws b ok back tuple u v fit e (goes_to _ next _ h rest) =
+back_from laws b d ok back tuple u v fit e (goes_again _ next _ h rest) =
     let o = one laws b ok back tuple fit in
-    let same = last_same next (concat o.next) 1 o.bit (sym h ∙ ap (fun_value (body_function b)) e ∙ function_turns laws b tuple o.next o.bit ok fit o.turn) in
-    let r = back_from laws b ok back o.next next v o.fit same.0 rest in
+    let same = last_same next (concat o.next) (back_bit d) o.bit (sym h ∙ ap (fun_value (body_function b)) e ∙ function_turns laws b tuple o.next o.bit ok fit o.turn) in
+    let r = back_from laws b d ok back o.next next v o.fit same.0 rest in
     record { result = r.result; loops = goes_on tuple o.next r.result (subst (Turn b tuple o.next) (sym same.1) o.turn) r.loops; fit = r.fit; is = r.is }
 
 pub loop_is_one_law : OpLaws → LoopIsOne
-loop_is_one_law laws b ok back tuple result other fit l m = loop_is_one laws b ok back tuple result other fit l m
+loop_is_one_law laws b d ok back tuple result other fit l m = loop_is_one laws b d ok back tuple result other fit l m
 
-pub function_loops_law : OpLaws → FunctionLoops
-function_loops_law laws b ok back tuple result fit l = function_loops laws b ok back tuple result fit l
+pub by_function : OpLaws → LoopsByFunction
+by_function laws b d ok back tuple result fit l = loops_by_function laws b d ok back tuple result fit l
 
-pub function_loops_back : OpLaws → FunctionLoopsBack
-function_loops_back laws b ok back tuple v fit l = let r = back_from laws b ok back tuple (concat tuple) v fit refl l in (r.result, r.loops, r.fit, r.is)
+pub of_function : OpLaws → LoopsOfFunction
+of_function laws b d ok back tuple v fit l = let r = back_from laws b d ok back tuple (concat tuple) v fit refl l in (r.result, r.loops, r.fit, r.is)

@@ -1,13 +1,14 @@
 -- What is computed of five lists to tell whether they are a body: marks on outputs, roots, and what the lanes reach.
-use Rattle.std.specs.Prelude.{◌≡◌, ℕ, zero, suc, ◌&&◌, Bool, true, false, not, IsTrue, List, [], ◌∷◌, ◌++◌, map, length, replicate, Option, Some, None, slice_get, slice_set, unwrap_or}
+use Rattle.std.specs.Prelude.{◌≡◌, ◌≢◌, ℕ, zero, suc, ◌+◌, ◌≤◌, ◌&&◌, Bool, true, false, not, IsTrue, List, [], ◌∷◌, ◌++◌, map, length, replicate, Option, Some, None, slice_get, slice_set, unwrap_or}
 use Rattle.std.specs.List.{list_any}
-use Rattle.fun_expr.specs.Each.{Each}
+use Rattle.fun_expr.specs.Each.{Each, total}
 use Rattle.components.specs.declared.kind.Kind.{Kind}
 use Rattle.components.specs.declared.kind.Kind.TheVariants.{Entry, Exit, Buffer, Fork, Join, Split, Operator, Constant, Source0, Sink0, Pure, Mux, Branch, Merge, CtrlMerge, Init, Tagger}
 use Rattle.components.specs.declared.node.Node.{Node}
-use Rattle.components.specs.Kind.{Shape, outs}
+use Rattle.components.specs.Kind.{Shape, AreParts, outs}
 use Rattle.loop_body.specs.declared.body_port.BodyPort.{BodyPort}
-use Rattle.loop_body.specs.Body.{entry}
+use Rattle.loop_body.specs.BodyKind.{weight}
+use Rattle.loop_body.specs.Body.{Body, kinds, entry, NodesFit}
 
 -- the kinds of nodes
 abbrev pub kinds_of : List Node → List Kind
@@ -93,3 +94,21 @@ reached_from reached (ports ∷ inputs) = reached_from (reached ++ list_any (is_
 abbrev pub HaveOneRoot : List (Option BodyPort) → List Bool → List BodyPort → Type 0
 HaveOneRoot roots reached [] = ⊥
 HaveOneRoot roots reached (p ∷ ports) = Each (λ q. root_in roots q ≡ root_in roots p) (p ∷ ports) × IsTrue (is_reached reached (root_in roots p))
+
+-- a Split, as which the lanes are judged
+abbrev pub IsSplit : Kind → Type 0
+IsSplit (Split shapes) = Unit {0}
+IsSplit _ = ⊥
+
+-- the nodes fit together within the limits, and there is one condition wire more than data wires
+pub record FitTogether (b : Body) : Type 0 where
+  pub vars : AreParts b.vars
+  pub nodes : NodesFit (b.vars ∷ []) (kinds b) b.inputs
+  pub count : length b.conditions ≡ length b.next + 1
+  pub few : length (kinds b) ≤ 4096
+  pub light : total weight (kinds b) ≤ 16384
+
+-- no text is equal to a later one
+abbrev pub AllDiffer : List (List ℕ) → Type 0
+AllDiffer [] = Unit {0}
+AllDiffer (text ∷ texts) = Each (λ other. text ≢ other) texts × AllDiffer texts

@@ -1,6 +1,6 @@
 //! Laws of bodies and their functions.
 ghost use Rattle.loop_body.specs.Laws.{ValueIsOne, TurnIsOne, FunctionIsTyped, FunctionIsLight, FunctionTurns};
-ghost use Rattle.loop_body.specs.Loops.{LoopIsOne, FunctionLoops, FunctionLoopsBack};
+ghost use Rattle.loop_body.specs.Loops.{LoopIsOne, LoopsByFunction, LoopsOfFunction};
 ghost use Rattle.loop_body.specs.Gcd.{GcdIsBody, GcdFunction};
 
 use fun_expr::fun_value_fits;
@@ -32,11 +32,11 @@ pub fn function_computes_turn()
 }
 
 /// Where the data wires have the shapes of the lanes, a loop with the body makes at most one tuple of a tuple, by finitely many
-/// turns, and the loop of its function makes just that.
+/// turns, and the loop of its function makes just that, whichever bit it goes back on.
 pub fn function_loops()
     ensures once { LoopIsOne }
-    ensures loops { FunctionLoops }
-    ensures back { FunctionLoopsBack }
+    ensures loops { LoopsByFunction }
+    ensures back { LoopsOfFunction }
 {
     tests_are_the_table();
     value_fits();
