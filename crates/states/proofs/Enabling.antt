@@ -17,7 +17,8 @@ use Rattle.circuits.specs.Run.{Step}
 use Rattle.circuits.proofs.MadeSteps.{Deed, Stands, StandEach, after, step_made}
 use Rattle.graph_core.specs.declared.place.NodeId.{NodeId}
 use Rattle.graph_core.specs.Place.{index_of}
-use Rattle.graph_core.specs.GraphValue.{GraphValue, IsGraph, Denotes}
+use Rattle.graph_core.specs.GraphValue.{GraphValue, IsGraph, Denotes, name_by}
+use Rattle.states.specs.Enabled.{IsEnabled, IsReadyAt}
 use Rattle.states.specs.Place.{PlaceValue}
 use Rattle.states.specs.GraphState.{Places, IsStateIn, place_at, place_of, state_of}
 use Rattle.states.specs.Ready.{CanFire, FitQueues, IsPlaceOf, IsReady}
@@ -105,3 +106,17 @@ module _ (g : GraphValue) (is : IsGraph g) (s : Places) (state : IsStateIn g s) 
       IsTrue (is_some o) ↔ ((t : CircuitState) × Step (circuit_of g.graph) (state_of g s) n (Fire choice) t)
   enabled_as_ready choice None cannot = ((λ h. absurd (false≢true h)), λ (t, step). absurd (cannot (can_of_step choice t step)))
   enabled_as_ready choice (Some taking) ready = ((λ h. (after (circuit_of g.graph) (state_of g s) (deed choice ready.can), made choice ready.can)), λ h. refl)
+
+pub taking_as_ready : (g : GraphValue) (is : IsGraph g) (s : Places) (state : IsStateIn g s) (id : NodeId) (denotes : Denotes g id (name_by g.ids id))
+    (kind : Kind) (is_kind : (circuit_of g.graph).kind_at (name_by g.ids id) ≡ Some kind) (choice : ℕ) (o : Option Taking) →
+    MatchOption o (¬ (CanFire kind choice (place_at s id))) (IsReady kind choice (place_at s id)) → MatchOption o (¬ (IsEnabled g s id choice)) (IsReadyAt g s id choice)
+taking_as_ready g is s state id denotes kind is_kind choice None cannot = λ (t, step). cannot (can_of_step g is s state id (name_by g.ids id) denotes kind is_kind choice t step)
+taking_as_ready g is s state id denotes kind is_kind choice (Some taking) ready = record { kind = kind; is_kind = is_kind; ready = ready }
+
+-- what can fire is enabled
+pub ready_enabled : (g : GraphValue) (is : IsGraph g) (s : Places) (state : IsStateIn g s) (id : NodeId) (denotes : Denotes g id (name_by g.ids id)) (choice : ℕ) (taking : Taking) →
+    IsReadyAt g s id choice taking → IsEnabled g s id choice
+ready_enabled g is s state id denotes choice taking at = (
+  after (circuit_of g.graph) (state_of g s) (deed g is s state id (name_by g.ids id) denotes at.kind at.is_kind choice at.ready.can),
+  made g is s state id (name_by g.ids id) denotes at.kind at.is_kind choice at.ready.can,
+)

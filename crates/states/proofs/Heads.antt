@@ -11,6 +11,7 @@ use Rattle.components.specs.Kind.{Shape, field, ins}
 use Rattle.circuits.specs.PortTokens.{Token, single, one, at_port}
 use Rattle.circuits.specs.CircuitState.{Slot}
 use Rattle.circuits.specs.Firing.{FitEach, Fires}
+use Rattle.states.specs.Giving.{heads}
 use Rattle.states.specs.Ready.{FitQueues, StandAt, are_full}
 
 -- the kinds that take a token of each input
@@ -24,13 +25,6 @@ IsEach (Tagger shape tags) = ⊥
 IsEach _ = Unit {0}
 
 -- Heads
-
-abbrev pub head_of : List Token → Token
-head_of [] = []
-head_of (v ∷ queue) = v
-
-abbrev pub heads : List (List Token) → List Token
-heads queues = map head_of queues
 
 pub at_zero : (side : List (List Token)) → at_port side 0 ≡ []
 at_zero [] = refl

@@ -1,5 +1,6 @@
 mod Named
 mod Queues
+mod Lists
 mod Changing
 mod Stepping
 mod EndSteps
@@ -8,3 +9,7 @@ mod Heads
 mod Choosing
 mod Readiness
 mod Enabling
+mod GivenBy
+mod Settling
+mod FireStep
+mod Outputs

@@ -9,7 +9,8 @@ use Rattle.circuits.specs.PortTokens.{single, one, at_port}
 use Rattle.states.specs.declared.taking.Taking.TheVariants.{Each}
 use Rattle.states.specs.Place.{PlaceValue}
 use Rattle.states.specs.Ready.{CanFire, IsPlaceOf, IsReady, are_full, each_taking, only_if, taking_of}
-use Rattle.states.proofs.Heads.{IsEach, fires_each, fit_count, full_each, heads, heads_count, heads_fit, one_at, stand_each, takes_each}
+use Rattle.states.specs.Giving.{heads}
+use Rattle.states.proofs.Heads.{IsEach, fires_each, fit_count, full_each, heads_count, heads_fit, one_at, stand_each, takes_each}
 use Rattle.states.proofs.Choosing.{merge_ready, mux_ready, tagger_ready}
 
 each_ready : (kind : Kind) (choice : ℕ) (place : PlaceValue) → IsPlaceOf kind place → IsEach kind →

@@ -5,4 +5,6 @@ pub mod Starting
 pub mod Laws
 pub mod Taking
 pub mod Ready
+pub mod Giving
+pub mod Fired
 pub mod Enabled

@@ -1,5 +1,5 @@
 -- What stands at one node in a state: the tokens at its inputs, and its slots.
-use Rattle.std.specs.Prelude.{ℕ, List, [], Option, slice_index_or, refl}
+use Rattle.std.specs.Prelude.{ℕ, ◌-◌, List, [], length, take, Option, slice_index_or, refl}
 use Rattle.std.specs.Coded.{Coded, code_by, coded×, coded_ℕ, coded_list, coded_option}
 use Rattle.circuits.specs.PortTokens.{Token}
 use Rattle.circuits.specs.CircuitState.{Slot}
@@ -15,6 +15,10 @@ no_place = record { queues = []; slots = [] }
 -- what stands at an input; the inputs are counted from 0 here
 abbrev pub queue_at : List (List Token) → ℕ → List Token
 queue_at queues input = slice_index_or queues input []
+
+-- without the token that came last
+abbrev pub but_last : List Token → List Token
+but_last queue = take (length queue - 1) queue
 
 -- How it is stored
 

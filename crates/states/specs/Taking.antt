@@ -1,9 +1,13 @@
 -- What leaves the inputs of a node that fires.
-use Rattle.std.specs.Prelude.{◌≡◌, ◌≢◌, ℕ, ◌<◌, List, length, drop, nat_eq, if◌then◌else◌}
+use Rattle.std.specs.Prelude.{◌≢◌, ℕ, ◌<◌, List, map, drop, nat_eq, if◌then◌else◌, slice_set}
 use Rattle.circuits.specs.PortTokens.{Token}
 use Rattle.states.specs.declared.taking.Taking.{Taking}
 use Rattle.states.specs.declared.taking.Taking.TheVariants.{Nothing, Each, One, Both}
 use Rattle.states.specs.Place.{queue_at}
+
+-- one queue without its head
+abbrev pub without_head : ℕ → List (List Token) → List (List Token)
+without_head input queues = slice_set queues input (drop 1 (queue_at queues input))
 
 -- how many tokens are taken from an input
 abbrev pub count_at : Taking → ℕ → ℕ
@@ -20,6 +24,8 @@ IsWithin (One i) inputs = i < inputs
 IsWithin (Both i j) inputs = (i < inputs) × (j < inputs) × (i ≢ j)
 
 -- the queues without what is taken
-pub record IsTaken (taking : Taking) (old new : List (List Token)) : Type 0 where
-  pub count : length new ≡ length old
-  pub queues : (input : ℕ) → queue_at new input ≡ drop (count_at taking input) (queue_at old input)
+abbrev pub taken_queues : Taking → List (List Token) → List (List Token)
+taken_queues Nothing queues = queues
+taken_queues Each queues = map (drop 1) queues
+taken_queues (One i) queues = without_head i queues
+taken_queues (Both i j) queues = without_head j (without_head i queues)

@@ -1,12 +1,16 @@
 //! What stands at one node in a state.
-ghost use Rattle.std.specs.Prelude.{◌≡◌, ◌++◌, ◌∷◌, [], ◌<◌, ℕ, replicate, length, slice_get, slice_set, drop, is_ok, IfOk, IfErr, OnOk, OnErr, IsTrue};
+ghost use Rattle.std.specs.Prelude.{◌≡◌, ◌++◌, ◌∷◌, [], ◌<◌, ℕ, map, replicate, length, slice_get, slice_set, drop, is_ok, IfOk, IfErr, OnOk, OnErr, IsTrue};
 ghost use Rattle.std.specs.Option.{option_copied};
-ghost use Rattle.states.specs.Place.{queue_at};
+ghost use Rattle.states.specs.Giving.{changed_slots};
+ghost use Rattle.states.specs.Place.{but_last, queue_at};
+ghost use Rattle.states.specs.Taking.{IsWithin, taken_queues};
 ghost use Rattle.states.specs.Ready.{are_full, has_tag, head_number, is_finished, is_full, waits};
 
+use crate::change::Change;
 use crate::queue::Queue;
-use crate::slot::TagSlot;
-use port_types::Token;
+use crate::slot::{TagSlot, finish_slot};
+use crate::taking::Taking;
+use port_types::{NoMemory, Token};
 use std::alloc::Global;
 use std::marker::Model;
 
@@ -126,5 +130,77 @@ impl Place {
         ensures { result.now ≡ self.now.slots }
     {
         self.slots.as_slice()
+    }
+
+    /// The tokens at the inputs.
+    pub(crate) fn queues(&self) -> &[Queue<Token>]
+        ensures { result.now ≡ self.now.queues }
+    {
+        self.queues.as_slice()
+    }
+
+    /// Takes the last token of an input out again. Takes no memory.
+    pub(crate) fn take_back(&mut self, input: usize)
+        requires { input < length self.old.queues }
+        ensures { self.new ≡ record self.old { queues = slice_set self.old.queues input (but_last (queue_at self.old.queues input)) } }
+    {
+        let _ = self.queues[input].pop_back();
+    }
+
+    /// Takes tokens from the heads of the inputs. Takes no memory.
+    pub(crate) fn take(&mut self, taking: Taking)
+        requires { IsWithin taking (length self.old.queues) }
+        ensures { self.new ≡ record self.old { queues = taken_queues taking self.old.queues } }
+    {
+        match taking {
+            Taking::Nothing => {}
+            Taking::Each => self.take_each(),
+            Taking::One(input) => {
+                let _ = self.pop(input);
+            }
+            Taking::Both(first, second) => {
+                let _ = self.pop(first);
+                let _ = self.pop(second);
+            }
+        }
+    }
+
+    /// How many inputs there are.
+    fn inputs(&self) -> usize
+        ensures { result ≡ length self.now.queues }
+    {
+        self.queues.len()
+    }
+
+    /// Takes the token at the head of each input. Takes no memory.
+    fn take_each(&mut self)
+        ensures { self.new ≡ record self.old { queues = map (drop 1) self.old.queues } }
+    {
+        for input in 0..self.inputs() {
+            let _ = self.pop(input);
+        }
+    }
+
+    /// Changes the slots. The only error is want of memory, and leaves all as it was.
+    pub(crate) fn change(&mut self, change: Change) -> Result<(), NoMemory>
+        ensures ok { OnOk result (self.new ≡ record self.old { slots = changed_slots change self.old.slots }) }
+        ensures err { OnErr result (self.new ≡ self.old) }
+    {
+        match change {
+            Change::Keep => {}
+            Change::DropOldest => self.drop_oldest(),
+            Change::Finish(tag, token) => finish_slot(&mut self.slots, tag, token),
+            Change::Add(tag) => self.slots.push(TagSlot { tag, result: None })?,
+        }
+        Ok(())
+    }
+
+    /// Drops the oldest slot, if there is one.
+    fn drop_oldest(&mut self)
+        ensures { self.new ≡ record self.old { slots = drop 1 self.old.slots } }
+    {
+        if !self.slots.is_empty() {
+            let _ = self.slots.remove(0);
+        }
     }
 }

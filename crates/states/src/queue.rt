@@ -1,5 +1,5 @@
 //! Queues with both ends at constant cost.
-ghost use Rattle.std.specs.Prelude.{◌≡◌, ◌++◌, ◌∷◌, [], length, drop, slice_get, IfErr, OnOk, OnErr};
+ghost use Rattle.std.specs.Prelude.{◌≡◌, ◌++◌, ◌∷◌, [], ◌-◌, length, drop, take, slice_get, IfErr, OnOk, OnErr};
 ghost use Rattle.std.specs.Option.{option_copied};
 
 use std::alloc::Global;
@@ -30,6 +30,15 @@ impl<T> Queue<T> {
     {
         Queue {
             items: VecDeque::new(alloc),
+        }
+    }
+
+    /// With the items of a vector, the first at the front. Takes no memory.
+    pub(crate) fn of_items(items: Vec<T>) -> Queue<T>
+        ensures { result ≡ items.items }
+    {
+        Queue {
+            items: VecDeque::from_vec(items),
         }
     }
 
@@ -65,5 +74,12 @@ impl<T> Queue<T> {
         ensures rest { self.new ≡ drop 1 self.old }
     {
         self.items.pop_front()
+    }
+
+    /// Takes the item at the back out. `None` exactly where there is none.
+    pub(crate) fn pop_back(&mut self) -> Option<T>
+        ensures { self.new ≡ take (length self.old - 1) self.old }
+    {
+        self.items.pop_back()
     }
 }

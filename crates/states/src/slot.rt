@@ -1,3 +1,6 @@
+ghost use Rattle.std.specs.Prelude.{◌≡◌};
+ghost use Rattle.states.specs.Giving.{finish_slot};
+
 use port_types::Token;
 use std::marker::Model;
 
@@ -17,4 +20,17 @@ impl Model for TagSlot {
     ghost coded = { slot_code };
 
     ghost view = { λ s. record { tag = s.tag; result = s.result } };
+}
+
+/// Puts the result into the first slot of this tag, if there is one.
+pub(crate) fn finish_slot(slots: &mut [TagSlot], tag: u64, token: Token)
+    ensures { slots.new ≡ finish_slot tag token slots.old }
+{
+    for index in 0..slots.len() {
+        let slot = &mut slots[index];
+        if slot.tag == tag {
+            slot.result = Some(token);
+            return;
+        }
+    }
 }

@@ -1,5 +1,5 @@
 //! States, how they are read, and how tokens come in and go out.
-ghost use Rattle.std.specs.Prelude.{◌≡◌, ◌↔◌, ◌<◌, ◌≤◌, ◌-◌, ◌++◌, ◌∷◌, [], ℕ, Some, IsSome, length, drop, slice_get, IsTrue, IfSome, IfNone, IfErr, OnOk, OnErr};
+ghost use Rattle.std.specs.Prelude.{◌≡◌, ◌↔◌, ◌<◌, ◌≤◌, ◌-◌, ◌++◌, ◌∷◌, [], ℕ, Some, IsSome, length, drop, slice_get, Ok, false, IsTrue, MatchOption, IfSome, IfNone, IfOk, IfErr, OnOk, OnErr};
 ghost use Rattle.std.specs.Option.{option_copied};
 ghost use Rattle.std.specs.FinMap as finite;
 ghost use Rattle.port_types.specs.declared.side.Side.{Side};
@@ -9,16 +9,24 @@ ghost use Rattle.circuits.specs.Run.{Step};
 ghost use Rattle.graph_core.specs.GraphValue.{name_by, port_of};
 ghost use Rattle.graph_core.specs.Place.{index_of};
 ghost use Rattle.graph_core.specs.Wiring.{HasPort};
-ghost use Rattle.states.specs.Enabled.{IsEnabled};
+ghost use Rattle.states.specs.Enabled.{FiresTo, IsEnabled, IsReadyAt};
 ghost use Rattle.states.specs.Ends.{IsEntryFor, IsExitAt};
+ghost use Rattle.states.specs.Fired.{HasFired, finished_at};
+ghost use Rattle.states.specs.Place.{but_last};
+ghost use Rattle.states.specs.Taking.{IsWithin};
 ghost use Rattle.states.specs.GraphState.{IsStateIn, place_at, queue_of, state_of, with_queue};
 
+use crate::change::Change;
+use crate::firing::settle;
+use crate::giving::{change, given};
 use crate::kind::kind_at;
 use crate::laws::states_stay;
 use crate::place::Place;
+use crate::queue::Queue;
 use crate::ready::ready;
+use crate::taking::Taking;
 use graph_core::{Graph, NodeId, PortAt};
-use port_types::Token;
+use port_types::{NoMemory, Token};
 use std::marker::Model;
 
 /// A state of a graph: the tokens on each wire, and the slots of each Tagger, oldest first.
@@ -125,6 +133,61 @@ impl State {
         })
     }
 
+    /// Fires a node of the graph with the choice, by the row of its kind. `Ok(false)` exactly where it cannot fire with it; the state is then as it
+    /// was. The only error is want of memory, and leaves the state as it was too.
+    pub fn fire(&mut self, g: &Graph, node: NodeId, choice: u32) -> Result<bool, NoMemory>
+        requires state { IsStateIn g.now self.old }
+        requires live { IsSome (finite.get g.now.ids node) }
+        ensures state { IsStateIn g.now self.new }
+        ensures fired { IfOk result (HasFired g.now self.old node choice self.new) }
+        ensures cannot { (result ≡ Ok false) ↔ ¬ (IsEnabled g.now self.old node choice) }
+        ensures err { OnErr result (self.new ≡ self.old) }
+    {
+        g.is_graph();
+        match self.taking(g, node, choice) {
+            None => Ok(false),
+            Some(taking) => match self.fire_taking(g, node, choice, taking) {
+                Ok(()) => Ok(true),
+                Err(NoMemory) => Err(NoMemory),
+            },
+        }
+    }
+
+    /// What a node of the graph takes when it fires with the choice. `None` exactly where it cannot.
+    fn taking(&self, g: &Graph, node: NodeId, choice: u32) -> Option<Taking>
+        requires state { IsStateIn g.now self.now }
+        requires live { IsSome (finite.get g.now.ids node) }
+        ensures { MatchOption result (¬ (IsEnabled g.now self.now node choice)) (IsReadyAt g.now self.now node choice) }
+    {
+        g.is_graph();
+        ready(kind_at(g, node), self.place(node), choice)
+    }
+
+    /// Fires a node that can fire, and takes this. The only error is want of memory, and leaves the state as it was.
+    fn fire_taking(
+        &mut self,
+        g: &Graph,
+        node: NodeId,
+        choice: u32,
+        taking: Taking,
+    ) -> Result<(), NoMemory>
+        requires state { IsStateIn g.now self.old }
+        requires live { IsSome (finite.get g.now.ids node) }
+        requires ready { IsReadyAt g.now self.old node choice taking }
+        ensures state { OnOk result (IsStateIn g.now self.new) }
+        ensures fires { OnOk result (FiresTo g.now self.old node choice (state_of g.now self.new)) }
+        ensures err { OnErr result (self.new ≡ self.old) }
+    {
+        g.is_graph();
+        states_stay();
+        let kind = kind_at(g, node);
+        let alloc = *self.places.allocator();
+        let given = given(alloc, kind, self.place(node), choice)?;
+        let change = change(alloc, kind, self.place(node), choice)?;
+        let output = PortAt { node, port: 1 };
+        settle(self, g, output, Queue::of_items(given), taking, change)
+    }
+
     /// What stands at a node.
     pub(crate) fn place(&self, node: NodeId) -> &Place
         requires { index_of node < length self.now }
@@ -154,5 +217,33 @@ impl State {
         ensures rest { self.new ≡ with_queue self.old target (drop 1 (queue_of self.old target)) }
     {
         self.places[target.node.index()].pop(target.port as usize - 1)
+    }
+
+    /// Takes the last token on the wire into an input out again. Takes no memory.
+    pub(crate) fn take_back(&mut self, target: PortAt)
+        requires node { index_of target.node < length self.old }
+        requires some { 1 ≤ target.port }
+        requires few { target.port ≤ length (place_at self.old target.node).queues }
+        ensures { self.new ≡ with_queue self.old target (but_last (queue_of self.old target)) }
+    {
+        self.places[target.node.index()].take_back(target.port as usize - 1);
+    }
+
+    /// Takes tokens from the inputs of a node, and changes its slots. The only error is want of memory, and leaves the state as it was.
+    pub(crate) fn finish(
+        &mut self,
+        node: NodeId,
+        taking: Taking,
+        change: Change,
+    ) -> Result<(), NoMemory>
+        requires node { index_of node < length self.old }
+        requires within { IsWithin taking (length (place_at self.old node).queues) }
+        ensures ok { OnOk result (self.new ≡ finished_at self.old node taking change) }
+        ensures err { OnErr result (self.new ≡ self.old) }
+    {
+        let place = &mut self.places[node.index()];
+        place.change(change)?;
+        place.take(taking);
+        Ok(())
     }
 }
