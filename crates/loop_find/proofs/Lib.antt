@@ -1,9 +1,14 @@
+mod AllPorts
 mod BackSteps
 mod Choosing
+mod ConstantNodes
 mod CycleEdges
 mod CycleNumbers
 mod CycleTold
 mod CycleWalks
+mod Feeding
+mod FeedersFound
+mod FeedingSteps
 mod KindTests
 mod LaneEnds
 mod NodeCounts
@@ -15,5 +20,8 @@ mod MarkWalks
 mod RowNodes
 mod SpotWrites
 mod SpotsFound
+mod Spreading
+mod SpreadSteps
 mod WalkSteps
+mod Unions
 mod Walking

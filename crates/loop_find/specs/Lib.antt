@@ -1,9 +1,11 @@
 pub mod Backs
 pub mod Crossings
+pub mod Feeding
 pub mod Judging
 pub mod Marks
 pub mod NodeSets
 pub mod OnCycle
 pub mod Shapes
 pub mod Spots
+pub mod Spreading
 pub mod Walks

@@ -8,8 +8,10 @@
 #![tactic(auto)]
 
 mod back;
+mod candidates;
 mod choose;
 mod cycles;
+mod feeders;
 mod lane_branch;
 mod least;
 mod limits;
@@ -19,6 +21,7 @@ mod node_set;
 mod rows;
 mod shape;
 mod spots;
+mod spread;
 mod tree;
 mod walk;
 
