@@ -1,5 +1,7 @@
 mod AllPorts
 mod BackSteps
+mod BodyCycles
+mod BodyEdges
 mod Choosing
 mod ConstantNodes
 mod CycleEdges

@@ -1,4 +1,5 @@
 pub mod Backs
+pub mod BodyGraphs
 pub mod Crossings
 pub mod Feeding
 pub mod Judging

@@ -8,6 +8,7 @@
 #![tactic(auto)]
 
 mod back;
+mod body_cycle;
 mod candidates;
 mod choose;
 mod cycles;

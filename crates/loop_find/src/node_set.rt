@@ -1,5 +1,5 @@
 //! Sets of nodes that are emptied in constant time.
-ghost use Rattle.std.specs.Prelude.{◌≡◌, ◌↔◌, ◌<◌, ◌≤◌, [], Some, length, slice_get, IsTrue, IfOk, OnOk, OnErr, ◌++◌, ◌∷◌};
+ghost use Rattle.std.specs.Prelude.{◌≡◌, ◌↔◌, ◌<◌, ◌≤◌, [], Some, length, slice_get, IsTrue, IfOk, MatchOption, OnOk, OnErr, ◌++◌, ◌∷◌};
 ghost use Rattle.circuits.specs.Replacing.{In};
 ghost use Rattle.graph_core.specs.Place.{index_of};
 ghost use Rattle.loop_find.specs.NodeSets.{AreDifferent, IsPut};
@@ -78,6 +78,16 @@ impl NodeSet {
         match place_at(&self.places, id.index()) {
             Some(place) => self.stands_at(place, id),
             None => false,
+        }
+    }
+
+    /// The place of the node. `None` exactly where it is not in the set.
+    pub(crate) fn place(&self, id: NodeId) -> Option<usize>
+        ensures { MatchOption result (¬ (In id self.now.ids)) (λ place. slice_get self.now.ids place ≡ Some id) }
+    {
+        match place_at(&self.places, id.index()) {
+            Some(place) if self.stands_at(place, id) => Some(place),
+            _ => None,
         }
     }
 
