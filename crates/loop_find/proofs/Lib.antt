@@ -17,6 +17,9 @@ mod NodeCounts
 mod MarkLists
 mod MarkedNodes
 mod Oks
+mod Orders
+mod OrderSteps
+mod OrderTree
 mod Places
 mod MarkWalks
 mod RowNodes

@@ -21,7 +21,7 @@ use Rattle.loop_find.proofs.Choosing.{judged_of}
 use Rattle.loop_find.proofs.Walking.{in_cases, port_within}
 
 -- each of the first numbers is so, or one is otherwise
-each_or_one : (D E : ℕ → Type 0) → ((i : ℕ) → D i ⊎ E i) → (k : ℕ) → ((i : ℕ) → i < k → D i) ⊎ ((i : ℕ) × E i)
+pub each_or_one : (D E : ℕ → Type 0) → ((i : ℕ) → D i ⊎ E i) → (k : ℕ) → ((i : ℕ) → i < k → D i) ⊎ ((i : ℕ) × E i)
 each_or_one D E tell zero = inl (λ i less. absurd (omega arith))
 each_or_one D E tell (suc k) =
     elim (each_or_one D E tell k) [

@@ -1,5 +1,6 @@
 pub mod Backs
 pub mod BodyGraphs
+pub mod BodyOrders
 pub mod Crossings
 pub mod Feeding
 pub mod Judging

@@ -44,7 +44,7 @@ pub(crate) fn is_before(g: &Graph, one: NodeId, other: NodeId) -> bool
 }
 
 /// The name of the node.
-fn name_of(g: &Graph, id: NodeId) -> &[u8]
+pub(crate) fn name_of(g: &Graph, id: NodeId) -> &[u8]
     requires { Denotes g.now id (name_by g.now.ids id) }
     ensures { result.now ≡ name_by g.now.ids id }
 {

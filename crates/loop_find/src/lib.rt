@@ -19,6 +19,7 @@ mod limits;
 mod mark;
 mod named;
 mod node_set;
+mod order;
 mod rows;
 mod shape;
 mod spots;
