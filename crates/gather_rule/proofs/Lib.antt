@@ -1,0 +1,10 @@
+mod PlanDrawn
+mod Used
+mod GoodBodies
+mod Functions
+mod GatherNodes
+mod NewLabels
+mod BodyPlaces
+mod BodyTyped
+mod GatheredDrawn
+mod GatherSound

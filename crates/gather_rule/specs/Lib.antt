@@ -1,0 +1,5 @@
+pub mod PlanDrawing
+pub mod NumberedBody
+pub mod GatherGraphs
+pub mod Gather
+pub mod GatherSides
