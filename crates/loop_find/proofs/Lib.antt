@@ -2,12 +2,14 @@ mod AllPorts
 mod BackSteps
 mod BodyCycles
 mod BodyEdges
+mod BodySizes
 mod Choosing
 mod ConstantNodes
 mod CycleEdges
 mod CycleNumbers
 mod CycleTold
 mod CycleWalks
+mod ExprSizes
 mod Feeding
 mod FeedersFound
 mod FeedingSteps

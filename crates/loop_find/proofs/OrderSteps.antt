@@ -1,7 +1,7 @@
 -- What holds on the way to the order of a body.
-use Rattle.std.proofs.Common.{◌≡◌, ◌⊎◌, ℕ, ◌<◌, ◌≤◌, List, [], Bor, Some}
+use Rattle.std.proofs.Common.{◌≡◌, ℕ, ◌<◌, ◌≤◌, List, [], Bor, Some}
 use Rattle.std.specs.Prelude.{slice_get}
-use Rattle.components.specs.Name.{Name, Port}
+use Rattle.components.specs.Name.{Name}
 use Rattle.circuits.specs.Circuit.{circuit_of}
 use Rattle.circuits.specs.Replacing.{In}
 use Rattle.loop_laws.specs.Reached.{port_at}

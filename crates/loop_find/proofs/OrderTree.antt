@@ -1,9 +1,9 @@
 -- The tree of the nodes of a body that are next, entry by entry.
-use Rattle.std.proofs.Common.{◌≡◌, ◌≢◌, ◌⊎◌, inl, inr, ℕ, zero, suc, ◌+◌, ◌<◌, ◌≤◌, refl, sym, ap, subst, ◌∙◌, List, [], ◌∷◌, length, map, Bor, Some, Ordering, Less, Equal, Greater, arith}
+use Rattle.std.proofs.Common.{◌≡◌, ◌≢◌, ◌⊎◌, inl, inr, ℕ, suc, ◌+◌, ◌<◌, ◌≤◌, refl, sym, ap, subst, ◌∙◌, List, [], ◌∷◌, length, map, Bor, Some, Ordering, Less, Equal, Greater, arith}
 use Rattle.std.specs.Prelude.{slice_get}
 use Rattle.std.specs.FinMap as finite
 use Rattle.std.specs.List.{All}
-use Rattle.std.specs.Ordering.{ordering_reverse, match_ordering}
+use Rattle.std.specs.Ordering.{match_ordering}
 use Rattle.std.specs.BTreeMap.{insert_entry}
 use Rattle.std.proofs.lemmas.Bool.{cases_eq}
 use Rattle.std.proofs.lemmas.Option.{same_Some, slice_get_within}
@@ -11,10 +11,9 @@ use Rattle.components.specs.ByKey.{ref_cmp}
 use Rattle.components.specs.Kind.{outs}
 use Rattle.components.specs.Name.{Name, Port, name_cmp}
 use Rattle.components.specs.Node.{Body}
-use Rattle.components.specs.Orders.{name_cases, name_total, name_same}
+use Rattle.components.specs.Orders.{name_cases, name_same}
 use Rattle.circuits.specs.Replacing.{In, In.head, In.tail}
 use Rattle.loop_laws.specs.Reached.{port_at}
-use Rattle.loop_laws.specs.BodyOrder.{IsBefore}
 use Rattle.graph_core.specs.declared.place.NodeId.{NodeId}
 use Rattle.graph_core.specs.declared.place.PortAt.{PortAt}
 use Rattle.graph_core.specs.GraphValue.{GraphValue, Denotes, IsGraph, name_by, port_of}

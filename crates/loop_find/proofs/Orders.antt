@@ -1,5 +1,5 @@
 -- The order of a body, node by node.
-use Rattle.std.proofs.Common.{◌≡◌, ◌≢◌, ◌⊎◌, ◌↔◌, inl, inr, ℕ, suc, ◌+◌, ◌<◌, ◌≤◌, refl, sym, ap, subst, ◌∙◌, Bool, List, [], ◌∷◌, ◌++◌, length, map, Bor, Option, Some, None, Less, Greater, arith}
+use Rattle.std.proofs.Common.{◌≡◌, ◌≢◌, ◌⊎◌, ◌↔◌, inl, inr, ℕ, suc, ◌+◌, ◌<◌, refl, sym, ap, subst, ◌∙◌, Bool, List, [], ◌∷◌, ◌++◌, length, map, Bor, Option, Some, None, Less, Greater, arith}
 use Rattle.std.specs.FinMap as finite
 use Rattle.std.specs.List.{All}
 use Rattle.std.specs.Ordering.{ordering_reverse}
@@ -10,7 +10,7 @@ use Rattle.components.specs.ByKey.{ref_cmp}
 use Rattle.components.specs.Kind.{ins}
 use Rattle.components.specs.Name.{Name, Port}
 use Rattle.components.specs.Node.{Body}
-use Rattle.components.specs.Orders.{name_cases, name_total}
+use Rattle.components.specs.Orders.{name_total}
 use Rattle.circuits.specs.Circuit.{Circuit, circuit_of}
 use Rattle.circuits.specs.Replacing.{In, In.head, In.tail}
 use Rattle.loop_laws.specs.Reached.{port_at}
@@ -29,7 +29,6 @@ use Rattle.loop_find.proofs.MarkWalks.{live_of}
 use Rattle.loop_find.proofs.NodeCounts.{in_names, names_in}
 use Rattle.loop_find.proofs.OrderSteps.{IsFedBelow, Ordering}
 use Rattle.loop_find.proofs.OrderTree.{all_keys, key_cases}
-use Rattle.loop_find.proofs.Places.{in_either}
 use Rattle.loop_find.proofs.RowNodes.{each_or_one, of_all}
 use Rattle.loop_find.proofs.Walking.{in_cases, itself, source_live}
 

@@ -9,6 +9,7 @@
 
 mod back;
 mod body_cycle;
+mod body_size;
 mod candidates;
 mod choose;
 mod cycles;
@@ -26,6 +27,7 @@ mod spots;
 mod spread;
 mod tree;
 mod walk;
+mod weight;
 
 pub use cycles::on_cycles;
 pub use loop_laws::LoopFaultKind;
