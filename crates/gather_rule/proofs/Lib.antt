@@ -8,3 +8,4 @@ mod BodyPlaces
 mod BodyTyped
 mod GatheredDrawn
 mod GatherSound
+mod GatherMatches

@@ -3,3 +3,4 @@ pub mod NumberedBody
 pub mod GatherGraphs
 pub mod Gather
 pub mod GatherSides
+pub mod GatherInstance

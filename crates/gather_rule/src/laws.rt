@@ -1,5 +1,6 @@
 //! Laws of the rule `gather`.
 ghost use Rattle.gather_rule.specs.Gather.{GatherIsSound};
+ghost use Rattle.gather_rule.specs.GatherInstance.{GatherMatches};
 
 use body_laws::gather_refines;
 use circuits::graph_typed_as_circuit;
@@ -15,3 +16,8 @@ pub fn gather_is_sound()
     gather_refines();
     graph_typed_as_circuit();
 }
+
+/// Where the rule is an instance it matches.
+pub fn gather_matches()
+    ensures { GatherMatches }
+{}
