@@ -19,6 +19,8 @@ mod NodeCounts
 mod MarkLists
 mod MarkedNodes
 mod Oks
+mod OrderEnds
+mod OrderLists
 mod Orders
 mod OrderSteps
 mod OrderTree

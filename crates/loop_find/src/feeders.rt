@@ -41,7 +41,7 @@ pub(crate) fn find_takers(
 }
 
 /// Makes the set that of the feeders of the mark, with these takers. What lies behind them is not walked: each node that is looked at
-/// is a feeder of this mark alone, or is one of the takers, or feeds one of these. The only error is want of memory.
+/// is one of the takers, or feeds them and one another alone, or feeds one of these. The only error is want of memory.
 pub(crate) fn find_feeders(
     g: &Graph,
     mark: NodeId,

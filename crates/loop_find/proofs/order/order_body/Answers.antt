@@ -6,7 +6,9 @@ use Rattle.graph_core.specs.Place.{index_of}
 use Rattle.loop_laws.specs.Faults.{InBody}
 use Rattle.loop_find.proofs.MarkWalks.{live_of}
 use Rattle.loop_find.proofs.OrderSteps.{Ordering}
-use Rattle.loop_find.proofs.Orders.{no_entries, one_longer, ordering_first, ordering_more, placed_are, placed_in_order, popped_live}
+use Rattle.loop_find.proofs.OrderEnds.{placed_are, placed_in_order}
+use Rattle.loop_find.proofs.OrderLists.{no_entries}
+use Rattle.loop_find.proofs.Orders.{one_longer, ordering_first, ordering_more, popped_live}
 use Rattle.loop_find.proofs.order.order_body.Goals as goal
 
 pub loop-id-init : goal.loop-id-init
