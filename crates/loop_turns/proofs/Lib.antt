@@ -1,5 +1,5 @@
 mod Lists
-mod LoopLookups
+pub mod LoopLookups
 mod LoopShapes
 mod LoopFrame
 mod LoopMoved

@@ -1,7 +1,7 @@
 mod Turns
-mod LoopPlans
+pub mod LoopPlans
 mod LoopShapes
-mod LoopSteps
+pub mod LoopSteps
 mod LoopRuns
 mod RingItems
 mod Ring
@@ -10,7 +10,7 @@ mod InOrderTyped
 mod TaggedTyped
 mod TagRefines
 mod LoopDraws
-mod LoopGraphs
+pub mod LoopGraphs
 mod TagRing
 mod TagsApart
 mod RingAnywhere

@@ -1,0 +1,4 @@
+mod Made
+mod RebuiltMade
+mod GraphMade
+mod TagLoopTies
