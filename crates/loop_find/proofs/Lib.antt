@@ -13,6 +13,7 @@ mod ExprSizes
 mod Feeding
 mod FeedersFound
 mod FeedingSteps
+mod Endings
 mod KindTests
 mod LaneEnds
 mod NodeCounts
@@ -26,6 +27,7 @@ mod OrderSteps
 mod OrderTree
 mod Places
 mod MarkWalks
+mod RootWalks
 mod RowNodes
 mod SpotWrites
 mod SpotsFound
@@ -34,3 +36,4 @@ mod SpreadSteps
 mod WalkSteps
 mod Unions
 mod Walking
+mod UnevenNodes

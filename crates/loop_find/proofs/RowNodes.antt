@@ -44,7 +44,7 @@ module _ (g : GraphValue) where
     pub fed_lives : (n : Name) (i : ℕ) (q : Port) → (circuit_of g.graph).feeder (port_at n i) ≡ Some q → (id : NodeId) × Denotes g id n
     fed_lives n i q fed = let w = is.graph.wires (port_at n i) q fed in is.live n w.to w.is_to
 
-    feeds_lives : (n : Name) (i : ℕ) (q : Port) → (circuit_of g.graph).feeder (port_at n i) ≡ Some q → (id : NodeId) × Denotes g id q.node
+    pub feeds_lives : (n : Name) (i : ℕ) (q : Port) → (circuit_of g.graph).feeder (port_at n i) ≡ Some q → (id : NodeId) × Denotes g id q.node
     feeds_lives n i q fed = let w = is.graph.wires (port_at n i) q fed in is.live q.node w.from w.is_from
 
     pub reached_lives : (m n : Name) → Reached (circuit_of g.graph) m n → (id : NodeId) × Denotes g id n

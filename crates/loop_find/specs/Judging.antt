@@ -1,5 +1,5 @@
 -- Nodes that a row of the table holds at, and the least of them by name.
-use Rattle.std.specs.Prelude.{◌≡◌, ◌≢◌, ◌⊎◌, List, Option, MatchOption}
+use Rattle.std.specs.Prelude.{◌≡◌, ◌≢◌, ◌⊎◌, List, Option, Some, None, MatchOption}
 use Rattle.components.specs.Name.{Name}
 use Rattle.circuits.specs.Circuit.{circuit_of}
 use Rattle.loop_laws.specs.Reached.{HasKind, FedBy, IsPure}
@@ -22,6 +22,12 @@ pub record IsLesser (g : GraphValue) (one other r : NodeId) : Type 0 where
   pub is : (r ≡ one) ⊎ (r ≡ other)
   pub first : (one ≡ r) ⊎ IsBefore (name_by g.ids r) (name_by g.ids one)
   pub second : (other ≡ r) ⊎ IsBefore (name_by g.ids r) (name_by g.ids other)
+
+-- r is the one of the two nodes that there are that is not behind the other by name
+abbrev pub IsEarlier : GraphValue → Option NodeId → Option NodeId → Option NodeId → Type 0
+IsEarlier g None other r = r ≡ other
+IsEarlier g (Some one) None r = r ≡ Some one
+IsEarlier g (Some one) (Some other) r = (id : NodeId) × (r ≡ Some id) × IsLesser g one other id
 
 -- the answer is the least node by name of which this holds, and none where it holds of no node
 abbrev pub IsJudged : GraphValue → (Name → Type 0) → Option NodeId → Type 0

@@ -3,10 +3,12 @@ pub mod BodyGraphs
 pub mod BodyOrders
 pub mod Crossings
 pub mod Feeding
+pub mod Ends
 pub mod Judging
 pub mod Marks
 pub mod NodeSets
 pub mod OnCycle
+pub mod Roots
 pub mod Shapes
 pub mod Spots
 pub mod Spreading

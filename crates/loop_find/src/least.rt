@@ -1,8 +1,8 @@
 //! The least node by name.
-ghost use Rattle.std.specs.Prelude.{◌≡◌, ◌↔◌, IsTrue};
+ghost use Rattle.std.specs.Prelude.{◌≡◌, ◌↔◌, IfSome, IsTrue};
 ghost use Rattle.graph_core.specs.GraphValue.{Denotes, name_by};
 ghost use Rattle.loop_laws.specs.BodyOrder.{IsBefore};
-ghost use Rattle.loop_find.specs.Judging.{IsJudged, IsLesser};
+ghost use Rattle.loop_find.specs.Judging.{IsEarlier, IsJudged, IsLesser};
 ghost use Rattle.loop_find.specs.Walks.{AreLive, Has};
 
 use crate::node_set::NodeSet;
@@ -22,6 +22,19 @@ pub(crate) fn least(g: &Graph, set: &NodeSet) -> Option<NodeId>
         next += 1;
     }
     Some(found)
+}
+
+/// The one of the two nodes, where there are two, whose name is before that of the other, and else the one that there is.
+pub(crate) fn earlier(g: &Graph, one: Option<NodeId>, other: Option<NodeId>) -> Option<NodeId>
+    requires one { IfSome one (λ id. Denotes g.now id (name_by g.now.ids id)) }
+    requires other { IfSome other (λ id. Denotes g.now id (name_by g.now.ids id)) }
+    ensures { IsEarlier g.now one other result }
+{
+    match (one, other) {
+        (Some(one), Some(other)) => Some(lesser(g, one, other)),
+        (Some(one), None) => Some(one),
+        (None, other) => other,
+    }
 }
 
 /// The one of the two whose name is before that of the other.
