@@ -2,3 +2,5 @@ mod Made
 mod RebuiltMade
 mod GraphMade
 mod TagLoopTies
+mod LaneNames
+mod GatherTies

@@ -1,9 +1,10 @@
-//! What replacement by a rule makes of a graph, as a function of ports: definitions and a law, and no calls.
+//! What replacement by a rule makes of a graph, as a function of ports: definitions and laws, and no calls.
 //!
-//! The definitions, in `specs/`: `Laws`, for each rule the nodes that are new, and what is proved of what it makes.
+//! The definitions, in `specs/`: `Gather`, where a body can be gathered, by what its leaving wires enter; `Laws`, what is proved of what
+//! each rule makes.
 #![tactic(auto)]
 
-ghost use Rattle.rule_uses.specs.Laws.{TagLoopMakes};
+ghost use Rattle.rule_uses.specs.Laws.{GatherMakes, TagLoopMakes};
 
 use circuits::{graph_typed_as_circuit, replaced_graph_as_circuit};
 use tagged_loop::tagged_loop_refines;
@@ -16,3 +17,8 @@ pub fn tag_loop_makes()
     replaced_graph_as_circuit();
     tagged_loop_refines();
 }
+
+/// Where a body is a part of a typed circuit, what the Pure with its function makes of the circuit is the circuit with the body gathered.
+pub fn gather_makes()
+    ensures { GatherMakes }
+{}
