@@ -16,6 +16,8 @@ mod FeedingSteps
 mod Endings
 mod KindTests
 mod LaneEnds
+mod LaneFields
+mod NameTree
 mod NodeCounts
 mod MarkLists
 mod MarkedNodes

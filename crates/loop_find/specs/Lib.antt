@@ -5,6 +5,7 @@ pub mod Crossings
 pub mod Feeding
 pub mod Ends
 pub mod Judging
+pub mod NameOrders
 pub mod Marks
 pub mod NodeSets
 pub mod OnCycle

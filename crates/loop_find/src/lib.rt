@@ -10,11 +10,13 @@
 mod back;
 mod body_cycle;
 mod body_size;
+mod by_name;
 mod candidates;
 mod choose;
 mod cycles;
 mod ends;
 mod feeders;
+mod fields;
 mod lane_branch;
 mod least;
 mod limits;
