@@ -4,6 +4,7 @@ mod BodyCycles
 mod BodyEdges
 mod BodySizes
 mod Choosing
+mod Conditions
 mod ConstantNodes
 mod CycleEdges
 mod CycleNumbers

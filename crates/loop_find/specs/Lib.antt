@@ -6,6 +6,7 @@ pub mod Feeding
 pub mod Ends
 pub mod Judging
 pub mod NameOrders
+pub mod Lanes
 pub mod Marks
 pub mod NodeSets
 pub mod OnCycle

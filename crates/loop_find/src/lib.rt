@@ -13,6 +13,7 @@ mod body_size;
 mod by_name;
 mod candidates;
 mod choose;
+mod condition;
 mod cycles;
 mod ends;
 mod feeders;
