@@ -9,3 +9,7 @@ mod BodyTyped
 mod GatheredDrawn
 mod GatherSound
 mod GatherMatches
+mod Growing
+mod GatherLists
+mod Near
+mod OutputShapes

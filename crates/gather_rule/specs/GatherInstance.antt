@@ -13,12 +13,12 @@ use Rattle.circuits.specs.Circuit.{circuit_of}
 use Rattle.circuits.specs.Replacing.{NoneTwice}
 use Rattle.circuits.specs.ReplacedGraph.{Matches}
 use Rattle.subst_engine.specs.Prefix.{IsFreshPrefix}
-use Rattle.subst_engine.specs.Rule.{NamedRule}
 use Rattle.drawn_rules.specs.Labels.{AreFree}
 use Rattle.drawn_rules.specs.Placed.{IsPlaced}
 use Rattle.loop_body.specs.declared.body_port.BodyPort.{BodyPort}
 use Rattle.loop_body.specs.Body.{Body, IsBody}
 use Rattle.loop_body.specs.BodyFunction.{body_function}
+use Rattle.gather_rule.specs.BodyRule.{BodyRule}
 use Rattle.gather_rule.specs.NumberedBody.{numbered}
 use Rattle.gather_rule.specs.GatherGraphs.{body_drawing, gathered_drawing}
 use Rattle.gather_rule.specs.Gather.{listed_names, old_name, new_name, gather, CanGather}
@@ -96,11 +96,6 @@ pub record IsGatherInstance (g : NamedGraph) (prefix ends : ℕ) (split : Name) 
   pub body : IsBody b
   pub can : CanGather b
   pub placed : IsPlaced g (body_drawing (numbered b)) (old_name prefix ends (listed_names split b) (numbered b)) (gathered_drawing (numbered b) (body_function b)) (new_name prefix ends (listed_names split b) (numbered b))
-
--- a rule with the body that it takes the place of
-pub record BodyRule : Type 0 where
-  pub rule : NamedRule
-  pub body : Body
 
 -- the rule at an instance; its Entries and Exits have a prefix that no node of g has, so their names are none of the listed ones
 pub record IsGather (g : NamedGraph) (prefix : ℕ) (split : Name) (names branches : List Name) (mark : Name) (made : BodyRule) : Type 0 where

@@ -1,10 +1,11 @@
 -- The nodes and the wires of the two graphs of the rule gather, as lists. These serve contracts of private functions.
-use Rattle.std.specs.Prelude.{ℕ, suc, ◌+◌, List, [], ◌∷◌, ◌++◌, codes, length, map, replicate}
-use Rattle.std.specs.List.{concat}
+use Rattle.std.specs.Prelude.{◌≡◌, ℕ, suc, ◌+◌, ◌≤◌, List, [], ◌∷◌, ◌++◌, codes, length, map, replicate, slice_get, unwrap_or, Option, Some, None}
+use Rattle.std.specs.List.{AllByRecursion, concat}
+use Rattle.components.specs.declared.kind.Kind.{Kind}
 use Rattle.components.specs.declared.kind.Kind.TheVariants as kind
 use Rattle.components.specs.declared.node.Node.{Node}
 use Rattle.components.specs.Name.{Name}
-use Rattle.components.specs.Kind.{Shape, field}
+use Rattle.components.specs.Kind.{Shape, AreParts, field, outs}
 use Rattle.fun_expr.specs.Function.{Function}
 use Rattle.graph_core.specs.declared.exchange.End.{End}
 use Rattle.graph_core.specs.declared.exchange.End.TheVariants.{Fresh}
@@ -15,8 +16,14 @@ use Rattle.subst_engine.specs.Making.{bare_node}
 use Rattle.subst_engine.specs.Prefix.{prefix_text}
 use Rattle.drawn_rules.specs.declared.rows.Row.TheVariants.{Nodes, Ports}
 use Rattle.drawn_rules.specs.declared.row_ends.EndKind.TheVariants.{Entry, Exit}
+use Rattle.drawn_rules.specs.Labels.{AreFree}
 use Rattle.drawn_rules.specs.RowEnds.{end_node, end_nodes}
 use Rattle.drawn_rules.specs.Rows.{row_wires}
+use Rattle.loop_body.specs.declared.body_port.BodyPort.{BodyPort}
+use Rattle.loop_body.specs.Body.{Body, entry, IsBody}
+use Rattle.loop_body.specs.Laws.{next_shapes}
+use Rattle.gather_rule.specs.NumberedBody.{numbered_port}
+use Rattle.gather_rule.specs.Gather.{listed_names, CanGather}
 
 -- what each item of a list gives, where the items are counted from a number on
 abbrev pub rows_from : {A B : Type 0} → (ℕ → A → List B) → ℕ → List A → List B
@@ -64,3 +71,39 @@ right_list prefix ends vars f lanes =
     bare_node (prefix_text prefix ++ codes "vals") (kind.Split lanes) ∷
     bare_node (prefix_text prefix ++ codes "fork") (kind.Fork (1 ∷ []) (suc (length lanes))) ∷
     way_nodes ends lanes
+
+-- the places of the nodes of outputs are small enough to count on
+abbrev pub AreNear : List BodyPort → Type 0
+AreNear ports = AllByRecursion (λ p. p.node ≤ 4096) ports
+
+-- the wires of a body of named nodes, by what feeds its inputs, and where they leave
+abbrev pub ports_ends : ℕ → List BodyPort → List (End × End)
+ports_ends place ports = rows_from (λ i p. (out_end (numbered_port p), Fresh place i) ∷ []) 1 ports
+
+abbrev pub inputs_ends : ℕ → List (List BodyPort) → List (End × End)
+inputs_ends place inputs = rows_from ports_ends place inputs
+
+abbrev pub ways_ends : ℕ → List BodyPort → List (End × End)
+ways_ends place ports = rows_from (λ i p. (out_end (numbered_port p), Fresh i 1) ∷ []) place ports
+
+abbrev pub body_ends : List (List BodyPort) → List BodyPort → List BodyPort → List (End × End)
+body_ends inputs next conditions =
+    ((((Fresh 0 1, Fresh 1 1) ∷ []) ++ inputs_ends 2 inputs) ++ ways_ends (2 + length inputs) next) ++ ways_ends ((2 + length inputs) + length next) conditions
+
+-- lanes by which the Pure of a body is within the limits
+pub record CanGatherLanes (lanes : List Shape) : Type 0 where
+  pub parts : AreParts lanes
+  pub few : length lanes ≤ 63
+  pub fields : length (concat lanes) ≤ 127
+
+-- the two graphs can be made
+pub record CanMakeSides (prefix ends : ℕ) (split : Name) (b : Body) (lanes : List Shape) : Type 0 where
+  pub body : IsBody b
+  pub free : AreFree prefix ends (listed_names split b)
+  pub lanes_are : lanes ≡ next_shapes b
+  pub can : CanGather b
+
+-- the shapes of outputs of these kinds, or none where there is no such output
+abbrev pub AreShapesAt : List Kind → List BodyPort → Option (List Shape) → Type 0
+AreShapesAt ks ports None = (place : ℕ) × (p : BodyPort) × (slice_get ports place ≡ Some p) × (entry (map outs ks) p ≡ None)
+AreShapesAt ks ports (Some found) = found ≡ map (λ p. unwrap_or (entry (map outs ks) p) []) ports

@@ -4,3 +4,4 @@ pub mod GatherGraphs
 pub mod Gather
 pub mod GatherSides
 pub mod GatherInstance
+pub mod BodyRule
