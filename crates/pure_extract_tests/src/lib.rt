@@ -7,3 +7,5 @@ mod drop_buffer;
 mod graphs;
 #[cfg(test)]
 mod other_graphs;
+#[cfg(test)]
+mod trim_fork;
