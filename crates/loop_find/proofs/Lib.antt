@@ -40,3 +40,4 @@ mod WalkSteps
 mod Unions
 mod Walking
 mod UnevenNodes
+mod SomeLane
