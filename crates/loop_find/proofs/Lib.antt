@@ -41,3 +41,4 @@ mod Unions
 mod Walking
 mod UnevenNodes
 mod SomeLane
+mod LaneShapes
