@@ -42,3 +42,4 @@ mod Walking
 mod UnevenNodes
 mod SomeLane
 mod LaneShapes
+mod InsideRoots
