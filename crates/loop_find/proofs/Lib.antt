@@ -43,3 +43,4 @@ mod UnevenNodes
 mod SomeLane
 mod LaneShapes
 mod InsideRoots
+mod BoundData
