@@ -1,22 +1,22 @@
-mod Sorts
-mod Draining
-mod Carries
-mod Ordering
-mod Untouched
-mod Carrying
-mod PartInside
-mod PartPlace
-mod NewPlace
-mod PartPasses
-mod PartStates
-mod PartDrained
-mod PartDrains
-mod OffCycles
-mod ReplacedDrains
-mod DrainSteps
-mod BlockRuns
-mod OneNode
-mod PureAndSplit
-mod GraphNodes
-mod Notions
-mod DrainLaws
+pub mod Sorts
+pub mod Draining
+pub mod Carries
+pub mod Ordering
+pub mod Untouched
+pub mod Carrying
+pub mod PartInside
+pub mod PartPlace
+pub mod NewPlace
+pub mod PartPasses
+pub mod PartStates
+pub mod PartDrained
+pub mod PartDrains
+pub mod OffCycles
+pub mod ReplacedDrains
+pub mod DrainSteps
+pub mod BlockRuns
+pub mod OneNode
+pub mod PureAndSplit
+pub mod GraphNodes
+pub mod Notions
+pub mod DrainLaws

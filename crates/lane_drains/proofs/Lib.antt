@@ -1,0 +1,7 @@
+mod Walks
+mod Streams
+mod LaneFlow
+mod LaneTurns
+mod LaneLoopDrains
+mod LoopCut
+mod TurnFunction

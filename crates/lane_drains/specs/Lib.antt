@@ -1,0 +1,4 @@
+pub mod LaneLoop
+pub mod LoopCut
+pub mod TurnFunction
+pub mod Laws
