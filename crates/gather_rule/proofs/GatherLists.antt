@@ -1,27 +1,22 @@
 -- The lists that the two graphs are made of.
-use Rattle.std.proofs.Common.{◌≡◌, ℕ, zero, suc, ◌+◌, ◌≤◌, length, map, List, [], ◌∷◌, ◌++◌, Some, refl, sym, ap, subst, ◌∙◌, append_assoc, arith, codes}
+use Rattle.std.proofs.Common.{◌≡◌, ℕ, suc, ◌+◌, ◌≤◌, length, map, List, [], ◌∷◌, ◌++◌, Some, refl, sym, ap, subst, ◌∙◌, append_assoc, arith, codes}
 use Rattle.std.specs.Prelude.{replicate, slice_get}
-use Rattle.std.specs.List.{AllByRecursion, concat}
 use Rattle.std.proofs.lemmas.List.{length-map}
 use Rattle.components.specs.declared.kind.Kind.{Kind}
 use Rattle.components.specs.declared.kind.Kind.TheVariants as kind
 use Rattle.components.specs.declared.node.Node.{Node}
 use Rattle.components.specs.Name.{Name}
 use Rattle.components.specs.Kind.{Shape, field, outs}
-use Rattle.components.specs.NamedGraph.{IsTyped}
 use Rattle.graph_core.specs.declared.exchange.End.{End}
 use Rattle.graph_core.specs.declared.exchange.End.TheVariants.{Fresh}
 use Rattle.circuit_plans.specs.Plans.{Out}
 use Rattle.circuit_plans.specs.Places.{Place, first, later, item, before, each_of}
-use Rattle.body_laws.specs.Bodies.{BodyNode}
 use Rattle.body_laws.specs.BodyPlans.{Part, enter, vars, node, tail, Way, next, condition, other, shape_of, body_plan, Gathered, gathered_plan, way}
 use Rattle.body_laws.specs.BodyPlans as plans
-use Rattle.drawn_rules.specs.declared.row_ends.EndKind.{EndKind}
 use Rattle.drawn_rules.specs.declared.row_ends.EndKind.TheVariants.{Exit}
 use Rattle.drawn_rules.specs.Labels.{AreFree, nth}
 use Rattle.drawn_rules.specs.RowEnds.{end_node, end_nodes}
 use Rattle.drawn_rules.specs.Sides.{nodes_of, ends_of}
-use Rattle.drawn_rules.proofs.Labelled as labelled
 use Rattle.drawn_rules.proofs.DrawnMade.{can_make, made_is}
 use Rattle.drawn_rules.proofs.Places.{each_next, stands_at}
 use Rattle.subst_engine.specs.Making.{bare_node, CanMake, rule_graph}
@@ -32,12 +27,12 @@ use Rattle.loop_body.specs.Laws.{next_shapes}
 use Rattle.gather_rule.specs.NumberedBody.{numbered, numbered_port, numbered_nodes, first_port, other_ports}
 use Rattle.gather_rule.specs.GatherGraphs.{body_list, body_drawing, gathered_list, gathered_drawing}
 use Rattle.gather_rule.specs.Gather.{listed_names, gather, CanGather, GatherIsSound}
-use Rattle.gather_rule.specs.GatherSides.{rows_from, out_end, nodes_ends, exit_ends, left_ends, right_ends, way_nodes, left_list, right_list, ports_ends, inputs_ends, ways_ends, body_ends, input_ends}
+use Rattle.gather_rule.specs.GatherSides.{rows_from, out_end, nodes_ends, exit_ends, left_ends, right_ends, way_nodes, left_list, right_list, inputs_ends, ways_ends, body_ends, input_ends}
 use Rattle.gather_rule.proofs.GoodBodies.{some_conditions}
-use Rattle.gather_rule.proofs.GatherNodes.{old_in, new_in, old_place, new_place, old_total, new_total, old_counted, new_counted, old_next, old_other, new_next, new_other}
+use Rattle.gather_rule.proofs.GatherNodes.{old_in, new_in, old_place, new_place, old_total, new_total, old_counted, new_counted, old_next, old_other}
 use Rattle.gather_rule.proofs.BodyTyped as body
 use Rattle.gather_rule.proofs.GatheredDrawn as gathered
-use Rattle.gather_rule.proofs.GatherSound.{nb, same, few, is_good, lanes_are, next_long, old, fresh, old_once, new_once, old_allowed, new_allowed}
+use Rattle.gather_rule.proofs.GatherSound.{nb, same, is_good, lanes_are, next_long, old, fresh, old_once, new_once, old_allowed, new_allowed}
 use Rattle.gather_rule.proofs.GatherMatches.{old_targets, new_targets}
 
 -- Exits of a family

@@ -1,5 +1,4 @@
-use Rattle.std.proofs.Common.{◌≡◌, true, false, ◌∷◌, map, sym, ◌∙◌, true≢false}
-use Rattle.components.specs.declared.kind.Kind.{Kind}
+use Rattle.std.proofs.Common.{◌∷◌, map, sym, ◌∙◌, true≢false}
 use Rattle.components.specs.declared.node.Node.{Node}
 use Rattle.gather_rule.proofs.OutputShapes.{ok_at, no_port, has_shape}
 use Rattle.gather_rule.proofs.lanes.shape_at.Goals as goal

@@ -1,4 +1,4 @@
-use Rattle.std.proofs.Common.{◌≡◌, ◌++◌, ◌∷◌, [], map, take}
+use Rattle.std.proofs.Common.{◌≡◌, ◌++◌, map, take}
 use Rattle.components.specs.declared.node.Node.{Node}
 use Rattle.subst_engine.specs.Making.{bare_node}
 use Rattle.gather_rule.proofs.lists.push_bodies.Given as goal

@@ -1,5 +1,4 @@
-use Rattle.std.proofs.Common.{◌∙◌, ap, ◌+◌, ◌++◌, [], ◌∷◌, ◌≡◌, ◌≤◌, arith}
-use Rattle.graph_core.specs.declared.exchange.End.{End}
+use Rattle.std.proofs.Common.{◌∙◌, ◌+◌, ◌++◌, [], ◌∷◌, ◌≡◌, ◌≤◌, arith}
 use Rattle.graph_core.specs.declared.exchange.End.TheVariants.{Fresh}
 use Rattle.loop_body.specs.declared.body_port.BodyPort.{BodyPort}
 use Rattle.gather_rule.specs.NumberedBody.{numbered_port}
