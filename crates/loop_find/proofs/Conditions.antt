@@ -1,16 +1,15 @@
 -- The rows that are judged by the condition and the data of the lanes' Branches.
-use Rattle.std.proofs.Common.{◌≡◌, ◌⊎◌, inl, inr, ℕ, zero, suc, ◌+◌, ◌<◌, ◌≤◌, refl, sym, ap, subst, ◌∙◌, Bool, List, [], ◌∷◌, length, map, Some, None, arith}
+use Rattle.std.proofs.Common.{◌≡◌, inl, inr, ℕ, zero, suc, ◌+◌, ◌<◌, ◌≤◌, refl, sym, ap, subst, ◌∙◌, Bool, List, [], ◌∷◌, length, Some, None, arith}
 use Rattle.std.specs.Prelude.{slice_get}
 use Rattle.std.proofs.lemmas.Bool.{cases_eq}
 use Rattle.std.proofs.lemmas.Option.{same_Some, none-some, slice_get_within}
 use Rattle.components.specs.declared.kind.Kind.TheVariants.{Branch, Init}
 use Rattle.components.specs.Name.{Name, Port}
-use Rattle.components.specs.Kind.{Shape}
 use Rattle.circuits.specs.Circuit.{Circuit, Typed, circuit_of}
 use Rattle.circuits.specs.Replacing.{In, In.head, In.tail}
 use Rattle.circuits.specs.Root.{Root}
 use Rattle.loop_laws.specs.Polarity.{IsMark}
-use Rattle.loop_laws.specs.Reached.{port_at, IsLane}
+use Rattle.loop_laws.specs.Reached.{port_at}
 use Rattle.loop_laws.specs.BackPath.{BranchOf}
 use Rattle.loop_laws.specs.BodyOrder.{Ascending, IsBefore}
 use Rattle.loop_laws.specs.Feeders.{Feeder}
@@ -19,17 +18,15 @@ use Rattle.loop_laws.specs.declared.fault.LoopFaultKind.TheVariants.{ConditionRo
 use Rattle.loop_laws.proofs.Ascending.{each_in, not_both, not_itself}
 use Rattle.graph_core.specs.declared.place.NodeId.{NodeId}
 use Rattle.graph_core.specs.declared.place.PortAt.{PortAt}
-use Rattle.graph_core.specs.GraphValue.{GraphValue, Denotes, IsGraph, name_by, port_of}
+use Rattle.graph_core.specs.GraphValue.{GraphValue, Denotes, name_by, port_of}
 use Rattle.loop_find.specs.declared.shape.Lane.{Lane}
 use Rattle.loop_find.specs.Backs.{IsFed}
 use Rattle.loop_find.specs.Judging.{IsLeast}
 use Rattle.loop_find.specs.Lanes.{AreLanes, IsCondition, IsLaneBy, muxes_by}
-use Rattle.loop_find.specs.Marks.{names_by}
 use Rattle.loop_find.specs.Walks.{AreAll}
 use Rattle.loop_find.proofs.Endings.{one_branch}
 use Rattle.loop_find.proofs.MarkWalks.{holds_of}
 use Rattle.loop_find.proofs.RootWalks.{one_root}
-use Rattle.loop_find.proofs.Walking.{itself}
 
 -- where of two places the one stands
 by_places : (P : Type 0) (j k : ℕ) → (j < k → P) → (j ≡ k → P) → (k < j → P) → P
@@ -116,8 +113,15 @@ module _ (g : GraphValue) where
               absurd (not_both (name_by g.ids first.mux) other.lane before
               (other.is_first (name_by g.ids first.mux) (are.each 0 first at_first).its.is_lane (λ e. not_itself other.lane (subst (λ n. IsBefore n other.lane) e before))))
 
-    pub no_first : xs ≡ [] → (r : Name) → ¬ (FirstBranch c m goes_back r)
-    no_first none r first = let (k, x, at, same, branch) = lane_of first.lane r first.its in none-some x (sym (ap (λ ys. slice_get ys k) none) ∙ at)
+    no_first_of : xs ≡ [] → (r : Name) → ¬ (FirstBranch c m goes_back r)
+    no_first_of none r first = let (k, x, at, same, branch) = lane_of first.lane r first.its in none-some x (sym (ap (λ ys. slice_get ys k) none) ∙ at)
+
+    pub no_first : slice_get xs 0 ≡ None → (r : Name) → ¬ (FirstBranch c m goes_back r)
+    no_first at_none = no_first_of (none_at xs at_none)
+      where
+        none_at : (ys : List Lane) → slice_get ys 0 ≡ None → ys ≡ []
+        none_at [] e = refl
+        none_at (y ∷ ys) e = absurd (none-some y (sym e))
 
     -- what comes from feeders
     module _ (feeders : List NodeId) (fed : AreAll g (Feeder c m goes_back) feeders) where

@@ -15,7 +15,6 @@ use Rattle.graph_core.specs.declared.place.NodeId.{NodeId}
 use Rattle.graph_core.specs.GraphValue.{GraphValue, Denotes, IsGraph, name_by}
 use Rattle.loop_find.specs.NameOrders.{AreByName}
 use Rattle.loop_find.specs.Marks.{names_by}
-use Rattle.loop_find.specs.Walks.{AreLive}
 use Rattle.loop_find.proofs.Places.{in_at, at_in}
 
 abbrev pub Tree : Type 0

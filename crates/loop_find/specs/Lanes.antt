@@ -1,13 +1,12 @@
 -- The lanes of a mark, by ids and in order.
 use Rattle.std.specs.Prelude.{◌≡◌, ℕ, Bool, List, map, Some, slice_get}
-use Rattle.components.specs.Name.{Name, Port}
+use Rattle.components.specs.Name.{Name}
 use Rattle.circuits.specs.Circuit.{circuit_of}
 use Rattle.circuits.specs.Replacing.{In}
 use Rattle.circuits.specs.Root.{PassesThrough, Root}
 use Rattle.loop_laws.specs.Reached.{port_at, HasKind, IsLane}
 use Rattle.loop_laws.specs.BackPath.{BranchOf}
 use Rattle.loop_laws.specs.BodyOrder.{Ascending}
-use Rattle.graph_core.specs.declared.place.NodeId.{NodeId}
 use Rattle.graph_core.specs.declared.place.PortAt.{PortAt}
 use Rattle.graph_core.specs.GraphValue.{GraphValue, Denotes, name_by, port_of}
 use Rattle.loop_find.specs.declared.shape.Lane.{Lane}

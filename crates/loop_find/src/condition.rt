@@ -5,12 +5,13 @@ ghost use Rattle.graph_core.specs.GraphValue.{name_by, port_of};
 ghost use Rattle.loop_laws.specs.Polarity.{IsMark};
 ghost use Rattle.loop_laws.specs.Feeders.{Feeder};
 ghost use Rattle.loop_laws.specs.Faults.{Row};
-ghost use Rattle.loop_laws.specs.declared.fault.LoopFaultKind.TheVariants.{ConditionRoot, FreeCondition};
+ghost use Rattle.loop_laws.specs.declared.fault.LoopFaultKind.TheVariants.{ConditionRoot, FreeCondition, FreeData};
 ghost use Rattle.loop_find.specs.Judging.{IsJudged};
 ghost use Rattle.loop_find.specs.Lanes.{AreLanes, IsCondition};
 ghost use Rattle.loop_find.specs.Roots.{IsRooted};
 ghost use Rattle.loop_find.specs.Walks.{AreAll};
 
+use crate::back::source_of;
 use crate::node_set::NodeSet;
 use crate::root::has_root;
 use crate::shape::Lane;
@@ -75,4 +76,35 @@ pub(crate) fn free_condition(
         return Some(root.node);
     }
     None
+}
+
+/// The Branch of the first lane, if the data of each lane comes from one of these feeders. `None` exactly where that of some does not.
+pub(crate) fn free_data(
+    g: &Graph,
+    mark: NodeId,
+    goes_back: bool,
+    lanes: &[Lane],
+    feeders: &NodeSet,
+) -> Option<NodeId>
+    requires typed { Typed (circuit_of g.now.graph) }
+    requires lanes { AreLanes g.now (name_by g.now.ids mark) goes_back lanes.now }
+    requires feeders { AreAll g.now (Feeder (circuit_of g.now.graph) (name_by g.now.ids mark) goes_back) feeders.now.ids }
+    ensures { IsJudged g.now (Row (circuit_of g.now.graph) (name_by g.now.ids mark) goes_back FreeData) result }
+{
+    g.is_graph();
+    let _ = (mark, goes_back);
+    for lane in lanes {
+        let data = PortAt {
+            node: lane.branch,
+            port: 1,
+        };
+        let source = source_of(g, data);
+        if !feeders.contains(source.node) {
+            return None;
+        }
+    }
+    match lanes.first() {
+        Some(lane) => Some(lane.branch),
+        None => None,
+    }
 }

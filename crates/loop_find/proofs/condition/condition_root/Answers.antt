@@ -1,7 +1,7 @@
 use Rattle.std.proofs.Common.{◌≤◌, ◌∙◌, Some, length, sym, ap, refl, arith}
 use Rattle.std.proofs.lemmas.Bool.{false≢true}
 use Rattle.graph_core.specs.GraphValue.{name_by}
-use Rattle.loop_find.proofs.Conditions.{branch_fed, mark_fed, rooted_first, rooted_more, odd_condition, odd_mark, even_conditions}
+use Rattle.loop_find.proofs.Conditions.{branch_fed, mark_fed, rooted_more, odd_condition, odd_mark, even_conditions}
 use Rattle.loop_find.proofs.CycleEdges.{got_or}
 use Rattle.loop_find.proofs.Walking.{named}
 use Rattle.loop_find.proofs.condition.condition_root.Goals as goal
