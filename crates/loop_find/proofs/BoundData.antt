@@ -18,7 +18,7 @@ module _ (c : Circuit) (typed : Typed c) (m : Name) (goes_back : Bool) where
   no_buffer : (r : Name) (shape : Shape) → c.kind_at r ≡ Some (Branch shape) → HasKind c IsBuffer r → ⊥
   no_buffer r shape is h = subst IsBuffer (same_Some h.0 (Branch shape) (sym h.1 ∙ is)) h.2
 
-  one_branch : (lane r s : Name) → BranchOf c m goes_back lane r → BranchOf c m goes_back lane s → r ≡ s
+  pub one_branch : (lane r s : Name) → BranchOf c m goes_back lane r → BranchOf c m goes_back lane s → r ≡ s
   one_branch lane r s a b = ap (λ (z : Port). z.node) (same_start c _ a.back b.back _ _ a.path b.path (no_buffer r a.shape a.is_branch) (no_buffer s b.shape b.is_branch)).0
 
   -- the lane's data come from the lanes or what is reached from them

@@ -44,3 +44,4 @@ mod SomeLane
 mod LaneShapes
 mod InsideRoots
 mod BoundData
+mod LoopJudged

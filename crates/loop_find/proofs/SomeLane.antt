@@ -64,43 +64,56 @@ module _ (c : Circuit) (m : Name) (typed : Typed c) (mark : IsMark c m) (goes_ba
       let (a, first) = passed_out kind (typed.kinds n kind is) through in
       typed.outputs (port_at n 1) kind a is first
 
-  by_sort : (n : Name) (p : Port) (k : Kind) → OnTree c m n → c.feeder p ≡ Some (port_at n 1) → c.kind_at p.node ≡ Some k → (a : Shape) → port_get (ins k) p.port ≡ Some a → Sort k → SomeLane ⊎ Next n
-  by_sort n p k on fed is a enters (passes through one) =
-      let port : p ≡ port_at p.node 1 = λ i. record { node = p.node; port = one p.port a enters i } in
-      inr
+  -- a wire from the tree enters a Fork or a Buffer
+  pub record Further (p q : Port) : Type 0 where
+    pub kind : Kind
+    pub is_kind : c.kind_at p.node ≡ Some kind
+    pub through : PassesThrough kind
+    pub is_first : p ≡ port_at p.node 1
+    pub on_tree : OnTree c m p.node
+
+  by_sort : (p q : Port) (k : Kind) → OnTree c m q.node → c.feeder p ≡ Some q → c.kind_at p.node ≡ Some k → (a : Shape) → port_get (ins k) p.port ≡ Some a → Sort k →
+      Further p q ⊎ ((p.port ≡ 1) × IsLane c m p.node)
+  by_sort p q k on fed is a enters (passes through one) =
+      inl
       (record {
-        node = p.node;
         kind = k;
         is_kind = is;
         through = through;
-        fed = ap c.feeder (sym port) ∙ fed;
-        on_tree = grown p.port (port_at n 1) k on fed is through;
+        is_first = λ i. record { node = p.node; port = one p.port a enters i };
+        on_tree = grown p.port q k on fed is through;
       })
-  by_sort n p k on fed is a enters (mux shape) = at p.port refl
+  by_sort p q k on fed is a enters (mux shape) = at p.port refl
     where
-      at : (i : ℕ) → p.port ≡ i → SomeLane ⊎ Next n
+      at : (i : ℕ) → p.port ≡ i → Further p q ⊎ ((p.port ≡ 1) × IsLane c m p.node)
       at (suc zero) e =
           let port : p ≡ port_at p.node 1 = λ i. record { node = p.node; port = e i } in
-          inl (p.node, record { shape = shape; is_mux = is; source = port_at n 1; fed = ap c.feeder (sym port) ∙ fed; by_tree = on })
-      at zero e = absurd (no_leaf p.node (p.port, port_at n 1, on, fed, (λ h. mux_blocks shape h.0 (same_Some h.0 (Mux shape) (sym h.1 ∙ is)) h.2), (λ h. let no : zero ≡ 1 = sym e ∙ h.0 in cc)))
-      at (suc (suc i)) e = absurd (no_leaf p.node (p.port, port_at n 1, on, fed, (λ h. mux_blocks shape h.0 (same_Some h.0 (Mux shape) (sym h.1 ∙ is)) h.2), (λ h. let no : suc (suc i) ≡ 1 = sym e ∙ h.0 in cc)))
-  by_sort n p k on fed is a enters (neither not_through not_mux) =
+          inr (e, record { shape = shape; is_mux = is; source = q; fed = ap c.feeder (sym port) ∙ fed; by_tree = on })
+      at zero e = absurd (no_leaf p.node (p.port, q, on, fed, (λ h. mux_blocks shape h.0 (same_Some h.0 (Mux shape) (sym h.1 ∙ is)) h.2), (λ h. let no : zero ≡ 1 = sym e ∙ h.0 in cc)))
+      at (suc (suc i)) e = absurd (no_leaf p.node (p.port, q, on, fed, (λ h. mux_blocks shape h.0 (same_Some h.0 (Mux shape) (sym h.1 ∙ is)) h.2), (λ h. let no : suc (suc i) ≡ 1 = sym e ∙ h.0 in cc)))
+  by_sort p q k on fed is a enters (neither not_through not_mux) =
       absurd
       (no_leaf p.node
       (
         p.port,
-        port_at n 1,
+        q,
         on,
         fed,
         (λ h. not_through (subst PassesThrough (same_Some h.0 k (sym h.1 ∙ is)) h.2)),
         (λ h. not_mux (subst IsMux (same_Some h.1.0 k (sym h.1.1 ∙ is)) h.1.2)),
       ))
 
+  -- a wire from the tree goes on in it, or into the select of a lane
+  pub after_tree : (p q : Port) → OnTree c m q.node → c.feeder p ≡ Some q → Further p q ⊎ ((p.port ≡ 1) × IsLane c m p.node)
+  after_tree p q on fed = let w = typed.wires p q fed in by_sort p q w.to on fed w.is_to w.shape w.enters (sort w.to)
+
   next : (n : Name) → OnTree c m n → SomeLane ⊎ Next n
   next n on =
       let (p, fed) = tree_out n on in
-      let w = typed.wires p (port_at n 1) fed in
-      by_sort n p w.to on fed w.is_to w.shape w.enters (sort w.to)
+      elim (after_tree p (port_at n 1) on fed) [
+        | inl x ↦ inr (record { node = p.node; kind = x.kind; is_kind = x.is_kind; through = x.through; fed = ap c.feeder (sym x.is_first) ∙ fed; on_tree = x.on_tree })
+        | inr lane ↦ inl (p.node, lane.1)
+      ]
 
   each_next : (ns : List Name) → ((n : Name) → In n ns → OnTree c m n) → SomeLane ⊎ AllByRecursion Next ns
   each_next [] on = inr tt
