@@ -18,6 +18,7 @@ mod Endings
 mod KindTests
 mod LaneEnds
 mod LaneFields
+mod LaneLists
 mod NameTree
 mod NodeCounts
 mod MarkLists

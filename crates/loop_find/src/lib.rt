@@ -19,6 +19,7 @@ mod ends;
 mod feeders;
 mod fields;
 mod lane_branch;
+mod lanes;
 mod least;
 mod limits;
 mod mark;
