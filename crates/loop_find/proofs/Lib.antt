@@ -20,6 +20,7 @@ mod LaneEnds
 mod LaneFields
 mod LaneLists
 mod NameTree
+mod NamedTrees
 mod NodeCounts
 mod MarkLists
 mod MarkedNodes

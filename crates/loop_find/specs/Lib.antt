@@ -14,4 +14,5 @@ pub mod Roots
 pub mod Shapes
 pub mod Spots
 pub mod Spreading
+pub mod TreeNames
 pub mod Walks

@@ -32,6 +32,7 @@ mod shape;
 mod spots;
 mod spread;
 mod tree;
+mod tree_names;
 mod uneven;
 mod walk;
 mod weight;
