@@ -40,8 +40,8 @@ module _ (c : Circuit) (typed : Typed c) (m : Name) (goes_back : Bool) where
     free_or_bound lane r its q fed (inr (inr feeder)) =
         inr
         (λ s other p p_fed.
-            let same : r ≡ s = one_branch lane r s its other in
-            subst (λ (z : Port). Feeder c m goes_back z.node) (same_Some q p (sym fed ∙ ap (λ z. c.feeder (port_at z 1)) same ∙ p_fed)) feeder)
+        let same : r ≡ s = one_branch lane r s its other in
+        subst (λ (z : Port). Feeder c m goes_back z.node) (same_Some q p (sym fed ∙ ap (λ z. c.feeder (port_at z 1)) same ∙ p_fed)) feeder)
 
     one : (lane : Name) → IsLane c m lane → Bound lane ⊎ Free lane
     one lane is =

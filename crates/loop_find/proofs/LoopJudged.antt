@@ -221,6 +221,7 @@ module _ (one : RootIsOne) (c : Circuit) (typed : Typed c) (m : Name) (l : Loop)
         where
           ascending : Ascending (map (λ (x : Lane). x.mux) (found.first ∷ found.rest))
           ascending = subst (λ z. Ascending (map (λ (x : Lane). x.mux) z)) found.lanes found.lanes_by_name
+
           at : In x (found.first ∷ found.rest) → IsBefore found.first.mux other
           at (head e) = absurd (different (sym is ∙ ap (λ (z : Lane). z.mux) e))
           at (tail j) = subst (IsBefore found.first.mux) is (each_in (IsBefore found.first.mux) (map (λ (x : Lane). x.mux) found.rest) x.mux ascending.0 (mapped x found.rest j))
@@ -282,6 +283,7 @@ module _ (one : RootIsOne) (c : Circuit) (typed : Typed c) (m : Name) (l : Loop)
       none_before : (y : Lane) → In y (x ∷ xs) → IsBefore y.mux x.mux → ⊥
       none_before y (head e) before = not_itself x.mux (subst (λ (z : Lane). IsBefore z.mux x.mux) e before)
       none_before y (tail i) before = not_both x.mux y.mux (each_in (IsBefore x.mux) (map (λ (x : Lane). x.mux) xs) y.mux ascending.0 (mapped y xs i)) before
+
       with_first : (x : Lane) (xs : List Lane) → Agrees x → Agreement xs → Agreement (x ∷ xs)
       with_first x xs agrees (all_agree rest) = all_agree (λ y i. or_first x xs agrees rest y i)
         where
@@ -309,19 +311,17 @@ module _ (one : RootIsOne) (c : Circuit) (typed : Typed c) (m : Name) (l : Loop)
         | all_agree h ↦ h x i
         | one_differs z j differs earlier ↦
             absurd
-            (none ConditionRoot z.branch
-            (
+            (none ConditionRoot z.branch (
               found.first.branch,
               first_branch,
-              inl
-                  (
-                  z.mux,
-                  (found.each_lane z j).0,
-                  differ (port_at z.branch 2) differs,
-                  (λ other s its before h.
+              inl (
+                z.mux,
+                (found.each_lane z j).0,
+                differ (port_at z.branch 2) differs,
+                (λ other s its before h.
                     let (y, k, is) = found.all_lanes other its.is_lane in
                     agreed s y k (earlier y k (subst (λ n. IsBefore n z.mux) (sym is) before)) other is its h),
-                  ),
+              ),
             ))
       ]
 
@@ -331,8 +331,7 @@ module _ (one : RootIsOne) (c : Circuit) (typed : Typed c) (m : Name) (l : Loop)
         | inl h ↦ h
         | inr apart ↦
             absurd
-            (none ConditionRoot m
-            (
+            (none ConditionRoot m (
               found.first.branch,
               first_branch,
               inr (refl, differ (port_at m 1) apart, (λ lane s its h. let (y, k, is) = found.all_lanes lane its.is_lane in agreed s y k (all_lanes_agree y k) lane is its h)),

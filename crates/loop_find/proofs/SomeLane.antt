@@ -93,8 +93,7 @@ module _ (c : Circuit) (m : Name) (typed : Typed c) (mark : IsMark c m) (goes_ba
       at (suc (suc i)) e = absurd (no_leaf p.node (p.port, q, on, fed, (λ h. mux_blocks shape h.0 (same_Some h.0 (Mux shape) (sym h.1 ∙ is)) h.2), (λ h. let no : suc (suc i) ≡ 1 = sym e ∙ h.0 in cc)))
   by_sort p q k on fed is a enters (neither not_through not_mux) =
       absurd
-      (no_leaf p.node
-      (
+      (no_leaf p.node (
         p.port,
         q,
         on,
