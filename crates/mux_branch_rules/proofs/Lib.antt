@@ -1,3 +1,4 @@
 mod LaneLists
+mod MuxRows
 mod BranchLaws
 mod MuxLaws

@@ -1,3 +1,5 @@
 pub mod BranchCombine
 pub mod BranchSides
 pub mod MuxCombine
+pub mod MuxSides
+pub mod MuxTree

@@ -77,6 +77,14 @@ pub record IsMuxCombine (g : NamedGraph) (prefix : ℕ) (goes_back : Bool) (name
   pub at : IsMuxInstance g prefix ends goes_back names kinds lanes tree
   pub is : rule ≡ mux_combine prefix ends names goes_back kinds lanes tree
 
+-- there is an instance; the names of the Entries and the Exits are nothing to it
+pub record HasMuxInstance (g : NamedGraph) (prefix : ℕ) (goes_back : Bool) (names : List Name) : Type 0 where
+  pub ends : ℕ
+  pub kinds : List Kind
+  pub lanes : List Shape
+  pub tree : Tree kinds lanes
+  pub at : IsMuxInstance g prefix ends goes_back names kinds lanes tree
+
 -- Laws
 
 -- the rule meets what a rule owes, at different names that do not begin with the prefix of its ends
@@ -84,6 +92,6 @@ abbrev pub MuxCombineIsSound : Type 0
 MuxCombineIsSound = (prefix ends : ℕ) (names : List Name) (goes_back : Bool) (kinds : List Kind) (lanes : List Shape) (tree : Tree kinds lanes) → AreFree prefix ends names →
     length names ≡ length kinds + length lanes → CanCombineMuxes kinds lanes → IsSoundRule (mux_combine prefix ends names goes_back kinds lanes tree)
 
--- it matches at an instance
+-- it matches where it was made
 abbrev pub MuxCombineMatches : Type 0
 MuxCombineMatches = (g : NamedGraph) (prefix : ℕ) (goes_back : Bool) (names : List Name) (rule : NamedRule) → IsMuxCombine g prefix goes_back names rule → Matches g rule.left rule.right

@@ -134,13 +134,13 @@ fn bit_fork(alloc: Global, count: u8) -> Result<Kind, NoMemory>
     Ok(Kind::Fork(bit_shape(alloc)?, count))
 }
 
-fn join_kind(lanes: &Items<Shape>) -> Result<Kind, NoMemory>
+pub(crate) fn join_kind(lanes: &Items<Shape>) -> Result<Kind, NoMemory>
     ensures { IfOk result (λ kind. kind ≡ Join lanes.now) }
 {
     Ok(Kind::Join(lanes.clone()?))
 }
 
-fn split_kind(lanes: &Items<Shape>) -> Result<Kind, NoMemory>
+pub(crate) fn split_kind(lanes: &Items<Shape>) -> Result<Kind, NoMemory>
     ensures { IfOk result (λ kind. kind ≡ Split lanes.now) }
 {
     Ok(Kind::Split(lanes.clone()?))

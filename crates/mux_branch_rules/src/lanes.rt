@@ -55,7 +55,7 @@ pub(crate) fn lanes_at(
     Ok(Some(Items::new(lanes)))
 }
 
-fn copy_shape(shape: &Shape) -> Result<Shape, NoMemory>
+pub(crate) fn copy_shape(shape: &Shape) -> Result<Shape, NoMemory>
     ensures { IfOk result (λ copy. copy ≡ shape.now) }
 {
     Ok(shape.clone()?)

@@ -16,6 +16,10 @@ mod branch_sides;
 mod combined;
 mod lanes;
 mod mux_combine;
+mod mux_listed;
+mod mux_lists;
+mod mux_sides;
+mod mux_tree;
 
 pub use branch_combine::{
     BranchCombine, BranchCombine0, branch_combine_is_sound, branch_combine_matches,

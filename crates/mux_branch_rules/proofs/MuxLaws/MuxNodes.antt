@@ -67,10 +67,10 @@ module _ (kinds : List Kind) (lanes : List Shape) where
   abbrev pub new_total : ℕ
   new_total = ((5 + n) + n) + n
 
-  node_place : (m : Place kinds) → old_place (node m) ≡ 1 + before kinds m
+  pub node_place : (m : Place kinds) → old_place (node m) ≡ 1 + before kinds m
   node_place m = ap (λ (t : Bool). if t then suc (before kinds m) else suc (2 * n) + before kinds m) (lt-ltb (before kinds m) k (before_less kinds m)) ∙ omega arith
 
-  mux_place : (l : Place lanes) → old_place (mux l) ≡ (((1 + k) + n) + n) + before lanes l
+  pub mux_place : (l : Place lanes) → old_place (mux l) ≡ (((1 + k) + n) + n) + before lanes l
   mux_place l =
       let behind : k ≤ k + before lanes l = omega arith in
       ap (λ (t : Bool). if t then suc (k + before lanes l) else suc (2 * n) + (k + before lanes l)) (le-ltb (k + before lanes l) k behind) ∙ omega arith
