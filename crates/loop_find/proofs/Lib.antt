@@ -14,6 +14,7 @@ mod ExprSizes
 mod Feeding
 mod FeedersFound
 mod FeedingSteps
+mod FirstRoots
 mod Endings
 mod KindTests
 mod LaneEnds

@@ -18,6 +18,7 @@ mod cycles;
 mod ends;
 mod feeders;
 mod fields;
+mod first_condition;
 mod lane_branch;
 mod lanes;
 mod least;
