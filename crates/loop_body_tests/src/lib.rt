@@ -3,3 +3,11 @@
 
 #[cfg(test)]
 mod functions;
+#[cfg(test)]
+mod limits;
+#[cfg(test)]
+mod lists;
+#[cfg(test)]
+mod refused;
+#[cfg(test)]
+mod wires;
