@@ -5,3 +5,6 @@ mod LaneTurns
 mod LaneLoopDrains
 mod LoopCut
 mod TurnFunction
+mod LoopReplaced
+mod CutOffCycle
+mod MarkedLoop

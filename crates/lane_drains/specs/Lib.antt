@@ -1,4 +1,5 @@
 pub mod LaneLoop
+pub mod LaneEnds
 pub mod LoopCut
 pub mod TurnFunction
 pub mod Laws

@@ -1,5 +1,5 @@
 -- The loop at a mark, cut out of its graph.
-use Rattle.std.specs.Prelude.{◌≡◌, List, map, true, Some}
+use Rattle.std.specs.Prelude.{◌≡◌, ◌↔◌, List, map, true, Some}
 use Rattle.components.specs.declared.kind.Kind.TheVariants.{Entry, Exit}
 use Rattle.components.specs.Name.{Name}
 use Rattle.circuits.specs.Circuit.{Circuit}
@@ -25,3 +25,7 @@ pub record CutsLoop (part : Circuit) (m : Name) (l : Loop) (entry exit : Lane �
   pub exits : (x : Lane) → In x l.lanes → part.kind_at (exit x) ≡ Some (Exit x.shape)
   pub fresh : (x : Lane) → In x l.lanes → part.feeder (port_at x.mux (fresh_in l.goes_back)) ≡ Some (first_port (entry x))
   pub results : (x : Lane) → In x l.lanes → part.feeder (first_port (exit x)) ≡ Some (port_at x.branch (exit_out l.goes_back))
+
+-- the nodes of the part, but for its ends, are those of the loop at m
+abbrev pub IsCutTo : Circuit → Name → Loop → Type 0
+IsCutTo part m l = (n : Name) → (inside part n ≡ true) ↔ NodeOf m l n
